@@ -1,0 +1,172 @@
+-- Laws of the answer: where it is `Accepted` every check has passed, where it is not nothing is stored, and the slice that it reports is
+-- below 24. Assumes nothing.
+use mathlib.Core.Path.{_≡_, refl, ap}
+use mathlib.Core.Logic.{_⊎_, ⊎-elim}
+use mathlib.Core.Bool.{Bool, true, false, _&&_}
+use mathlib.Core.List.{List, [], _∷_}
+use Prim.Native.Nat.{ℕ, _*_, _<_, _≤_}
+use native.Mathlib.Nat.{not-suc-le-zero, lt-of-lt-of-le}
+use native.Mathlib.Omega.{arith}
+use lib.Dec.{eqb, lit<}
+use lib.ListN.{length}
+use borrow.Author.Tests.{eqb-true}
+use types.Run.{OneOf}
+use denote.Enum.Declared.{tagOf}
+use Rattle.records.specs.Records.{attributeWords, registerWords, portWords, outputWords}
+use Rattle.column.specs.declared.Check.{Check}
+use Rattle.column.specs.declared.Check.the-variants.{Attribute, Register, Port, Inmode, Opmode, Alumode, Carryinsel}
+use Rattle.column.specs.declared.Answer.{Answer}
+use Rattle.column.specs.declared.Answer.the-variants.{Accepted, BadCount, BadLength, Broken}
+use Rattle.column.specs.declared.refusals.Found.{Found}
+use Rattle.column.specs.declared.refusals.Found.the-variants.{Nothing, At}
+use Rattle.column.specs.Refusals.{checkNumber, numberOf, placeOf, fails, lowest, refuse, unless, settings, countFits, lengthsFit, clockAnswer, clearAnswer}
+use Rattle.column.specs.Calls.{leaves}
+use Rattle.column.specs.Parts.{Lengths}
+use Rattle.column.proofs.Search.{few, lowest-says}
+use Rattle.column.proofs.Answer.{the-type}
+
+-- what holds of the seven holds of each
+pub each-check : (P : Check → Type 0) → P Attribute → P Register → P Port → P Inmode → P Opmode → P Alumode → P Carryinsel → (check : Check) → P check
+each-check P p3 p4 p5 p6 p7 p8 p9 Attribute = p3
+each-check P p3 p4 p5 p6 p7 p8 p9 Register = p4
+each-check P p3 p4 p5 p6 p7 p8 p9 Port = p5
+each-check P p3 p4 p5 p6 p7 p8 p9 Inmode = p6
+each-check P p3 p4 p5 p6 p7 p8 p9 Opmode = p7
+each-check P p3 p4 p5 p6 p7 p8 p9 Alumode = p8
+each-check P p3 p4 p5 p6 p7 p8 p9 Carryinsel = p9
+
+-- ---- accepted
+
+-- where no slice fails any check, the settings are accepted
+pub none-fails : (count : ℕ) (at rs ps : List ℕ)
+    → ((check : Check) → lowest (fails check at rs ps) count ≡ Nothing) → settings count at rs ps ≡ Accepted
+unfolding settings
+none-fails count at rs ps none =
+    rw (none Attribute, none Register, none Port, none Inmode, none Opmode, none Alumode, none Carryinsel)
+
+-- an answer with a number above 0 is not `Accepted`
+refusal : (a : Answer) → 0 < numberOf a → a ≡ Accepted → ⊥
+refusal a h p = let e : numberOf a ≡ 0 = ap numberOf p in omega arith
+
+unless-passes : (b : Bool) (refused next : Answer) → 0 < numberOf refused → unless b refused next ≡ Accepted → (b ≡ true) × (next ≡ Accepted)
+unless-passes true refused next h p = (refl, p)
+unless-passes false refused next h p = absurd (refusal refused h p)
+
+pub both-true : (a b : Bool) → a && b ≡ true → (a ≡ true) × (b ≡ true)
+both-true true b p = (refl, p)
+both-true false b p = (p, cc)
+
+check-above : (check : Check) → 0 < checkNumber check
+check-above = each-check (λ check. 0 < checkNumber check) (lit< tt) (lit< tt) (lit< tt) (lit< tt) (lit< tt) (lit< tt) (lit< tt)
+
+refuse-passes : (check : Check) (found : Found) (next : Answer) → refuse check found next ≡ Accepted → (found ≡ Nothing) × (next ≡ Accepted)
+refuse-passes check Nothing next p = (refl, p)
+refuse-passes check (At k) next p = absurd (refusal (Broken check k) (check-above check) p)
+
+-- where the settings are accepted, no slice fails a check
+pub accepted-none : (count : ℕ) (at rs ps : List ℕ) → settings count at rs ps ≡ Accepted → (check : Check) → lowest (fails check at rs ps) count ≡ Nothing
+unfolding settings
+accepted-none count at rs ps p =
+    let p3 = refuse-passes Attribute (lowest (fails Attribute at rs ps) count) _ p in
+    let p4 = refuse-passes Register (lowest (fails Register at rs ps) count) _ (p3 .1) in
+    let p5 = refuse-passes Port (lowest (fails Port at rs ps) count) _ (p4 .1) in
+    let p6 = refuse-passes Inmode (lowest (fails Inmode at rs ps) count) _ (p5 .1) in
+    let p7 = refuse-passes Opmode (lowest (fails Opmode at rs ps) count) _ (p6 .1) in
+    let p8 = refuse-passes Alumode (lowest (fails Alumode at rs ps) count) _ (p7 .1) in
+    let p9 = refuse-passes Carryinsel (lowest (fails Carryinsel at rs ps) count) _ (p8 .1) in
+    each-check (λ check. lowest (fails check at rs ps) count ≡ Nothing) (p3 .0) (p4 .0) (p5 .0) (p6 .0) (p7 .0) (p8 .0) (p9 .0)
+
+-- a column that is ready for its edge
+pub record Ready (count : ℕ) (at rs ps os : List ℕ) : Type 0 where
+  pub few : count ≤ 24
+  pub lengths : Lengths count at rs ps
+  pub outputs : length os ≡ outputWords * count
+
+pub right-lengths : (count : ℕ) (at rs ps os : List ℕ) → lengthsFit count at rs ps os ≡ true
+    → Lengths count at rs ps × (length os ≡ outputWords * count)
+unfolding lengthsFit
+right-lengths count at rs ps os p =
+    let p4 = both-true _ (eqb (length os) (outputWords * count)) p in
+    let p3 = both-true _ (eqb (length ps) (portWords * count)) (p4 .0) in
+    let p2 = both-true (eqb (length at) (attributeWords * count)) (eqb (length rs) (registerWords * count)) (p3 .0) in (
+      record { attributes = eqb-true _ _ (p2 .0); registers = eqb-true _ _ (p2 .1); ports = eqb-true _ _ (p3 .1) },
+      eqb-true _ _ (p4 .1),
+    )
+
+pub accepted-ready : (count : ℕ) (at rs ps os : List ℕ) → clockAnswer count at rs ps os ≡ Accepted → Ready count at rs ps os
+unfolding clockAnswer
+accepted-ready count at rs ps os p =
+    let p1 = unless-passes (countFits count) BadCount _ (lit< tt) p in
+    let p2 = unless-passes (lengthsFit count at rs ps os) BadLength (settings count at rs ps) (lit< tt) (p1 .1) in
+    let long = right-lengths count at rs ps os (p2 .0) in
+    record { few = few count (p1 .0); lengths = long .0; outputs = long .1 }
+
+pub cleared-length : (count : ℕ) (rs : List ℕ) → clearAnswer count rs ≡ Accepted → length rs ≡ registerWords * count
+unfolding clearAnswer
+cleared-length count rs p =
+    let p1 = unless-passes (countFits count) BadCount _ (lit< tt) p in
+    eqb-true _ _ (unless-passes (eqb (length rs) (registerWords * count)) BadLength Accepted (lit< tt) (p1 .1) .0)
+
+-- ---- refused
+
+abbrev Above : List ℕ → Type 0
+Above [] = Unit {0}
+Above (k ∷ ks) = (0 < k) × Above ks
+
+-- a tag that is one of some keys above 0 is above 0
+above : (k : ℕ) (ks : List ℕ) (x : ℕ) → Above (k ∷ ks) → OneOf (k ∷ ks) x → 0 < x
+above k [] x p e = omega arith
+above k (j ∷ ks) x p h = ⊎-elim (λ (e : x ≡ k). omega arith) (λ (l : OneOf (j ∷ ks) x). above j ks x (p .1) l) h
+
+-- a refusal leaves what was there
+pub unstored : (a : Answer) → OneOf (1 ∷ 2 ∷ 3 ∷ []) (tagOf the-type a) → (new old : List ℕ) → old ≡ leaves a new old
+unstored Accepted h new old = let z : 0 < 0 = above 1 (2 ∷ 3 ∷ []) 0 (omega arith) h in absurd (not-suc-le-zero z)
+unstored BadCount h new old = refl
+unstored BadLength h new old = refl
+unstored (Broken check k) h new old = refl
+
+-- ---- the number, and the slice that is reported
+
+pub check-small : (check : Check) → checkNumber check < 10
+check-small = each-check (λ check. checkNumber check < 10) (lit< tt) (lit< tt) (lit< tt) (lit< tt) (lit< tt) (lit< tt) (lit< tt)
+
+pub number-small : (a : Answer) → numberOf a < 10
+number-small Accepted = lit< tt
+number-small BadCount = lit< tt
+number-small BadLength = lit< tt
+number-small (Broken check k) = check-small check
+
+refuse-place : (check : Check) (f : ℕ → Bool) (count : ℕ) (next : Answer) → count ≤ 24 → placeOf next < 24
+    → placeOf (refuse check (lowest f count) next) < 24
+refuse-place check f count next h l = by (lowest f count) (λ k e. lowest-says f count k e .0)
+  where
+    by : (found : Found) → ((k : ℕ) → found ≡ At k → k < count) → placeOf (refuse check found next) < 24
+    by Nothing s = l
+    by (At k) s = lt-of-lt-of-le (s k refl) h
+
+settings-place : (count : ℕ) (at rs ps : List ℕ) → count ≤ 24 → placeOf (settings count at rs ps) < 24
+unfolding settings
+settings-place count at rs ps h =
+    refuse-place Attribute (fails Attribute at rs ps) count _ h
+    (refuse-place Register (fails Register at rs ps) count _ h
+    (refuse-place Port (fails Port at rs ps) count _ h
+    (refuse-place Inmode (fails Inmode at rs ps) count _ h
+    (refuse-place Opmode (fails Opmode at rs ps) count _ h
+    (refuse-place Alumode (fails Alumode at rs ps) count _ h
+    (refuse-place Carryinsel (fails Carryinsel at rs ps) count _ h (lit< tt)))))))
+
+unless-place : (b : Bool) (refused next : Answer) → placeOf refused < 24 → (b ≡ true → placeOf next < 24) → placeOf (unless b refused next) < 24
+unless-place true refused next r n = n refl
+unless-place false refused next r n = r
+
+pub clock-place : (count : ℕ) (at rs ps os : List ℕ) → placeOf (clockAnswer count at rs ps os) < 24
+unfolding clockAnswer
+clock-place count at rs ps os =
+    unless-place (countFits count) BadCount _ (lit< tt)
+    (λ p. unless-place (lengthsFit count at rs ps os) BadLength (settings count at rs ps) (lit< tt) (λ _. settings-place count at rs ps (few count p)))
+
+pub clear-place : (count : ℕ) (rs : List ℕ) → placeOf (clearAnswer count rs) < 24
+unfolding clearAnswer
+clear-place count rs =
+    unless-place (countFits count) BadCount _ (lit< tt)
+    (λ _. unless-place (eqb (length rs) (registerWords * count)) BadLength Accepted (lit< tt) (λ _. lit< tt))

@@ -1,0 +1,78 @@
+-- Words stay within their widths: the registers after every accepted clock, the cascade on the way, and a cleared column's registers.
+-- Assumes nothing.
+use mathlib.Core.Path.{_≡_}
+use mathlib.Core.Bool.{false}
+use mathlib.Core.List.{List}
+use Prim.Native.Nat.{ℕ, zero, suc, _*_, _^_, _<_}
+use native.Mathlib.Nat.{le-of-lt}
+use lib.Dec.{lit<}
+use lib.ListN.{length, getD, replicate, length-replicate}
+use borrow.Author.Tests.{leb-false, lt-leb}
+use Rattle.records.specs.Records.{registerWords, portWords, registerWidths, portWidths, Fit, none, more, registersOf, portsOf, registersWords, portsWords}
+use Rattle.records.proofs.Fits.{fit-at, fit-each, zeros-fit}
+use Rattle.slice.proofs.Widths.{CascadeFit, cascade-fit, next-fit}
+use Rattle.column.specs.declared.Check.the-variants.{Register, Port}
+use Rattle.column.specs.declared.Answer.the-variants.{Accepted}
+use Rattle.column.specs.Column.{stretch, registersAt, portsAt, cascadeInto, nextAt, columnNext}
+use Rattle.column.specs.Refusals.{exceeds, broken, fails, settings}
+use Rattle.column.proofs.Search.{some-false, none-some, lowest-none}
+use Rattle.column.proofs.Stacks.{stretch-stacked, stacked-zeros}
+use Rattle.column.proofs.Edges.{next-length}
+use Rattle.column.proofs.Answers.{accepted-none}
+
+-- ---- the table's check, and what it says of each word
+
+pub within : (widths words : List ℕ) → exceeds widths words ≡ false → (i : ℕ) → i < length widths → getD words i 0 < 2 ^ getD widths i 0
+unfolding exceeds
+within widths words p i h = leb-false (2 ^ getD widths i 0) (getD words i 0) (some-false _ (length widths) i p h)
+
+pub fit-within : {widths words : List ℕ} → Fit widths words → exceeds widths words ≡ false
+unfolding exceeds
+fit-within {widths} {words} f = none-some _ (length widths) (λ i h. lt-leb (2 ^ getD widths i 0) (getD words i 0) (fit-at f i h))
+
+pub registers-fit : (ws : List ℕ) → exceeds registerWidths ws ≡ false → Fit registerWidths (registersWords (registersOf ws))
+registers-fit ws p = fit-each registerWidths (λ i. getD ws i 0) (within registerWidths ws p)
+
+pub ports-fit : (ws : List ℕ) → exceeds portWidths ws ≡ false → Fit portWidths (portsWords (portsOf ws))
+ports-fit ws p = fit-each portWidths (λ i. getD ws i 0) (within portWidths ws p)
+
+-- ---- an accepted clock
+
+module _ (count : ℕ) (at rs ps : List ℕ) (accepted : settings count at rs ps ≡ Accepted) where
+  -- slice k's registers and ports are within their widths
+  registers-within : (k : ℕ) → k < count → Fit registerWidths (registersWords (registersAt rs k))
+  unfolding fails broken
+  registers-within k h =
+      registers-fit (stretch registerWords k rs) (lowest-none (fails Register at rs ps) count k (accepted-none count at rs ps accepted Register) h)
+
+  ports-within : (k : ℕ) → k < count → Fit portWidths (portsWords (portsAt ps k))
+  unfolding fails broken
+  ports-within k h =
+      ports-fit (stretch portWords k ps) (lowest-none (fails Port at rs ps) count k (accepted-none count at rs ps accepted Port) h)
+
+  -- so is the cascade into it
+  pub into-within : (k : ℕ) → k < count → CascadeFit (cascadeInto at rs ps k)
+  unfolding cascadeInto
+  into-within zero h = more (lit< tt) (more (lit< tt) (more (lit< tt) none))
+  into-within (suc k) h =
+      cascade-fit _ (registers-within k (le-of-lt h)) (ports-within k (le-of-lt h)) (into-within k (le-of-lt h))
+
+  -- and so are its registers after the edge
+  pub next-within : (k : ℕ) → k < count → Fit registerWidths (nextAt at rs ps k)
+  unfolding nextAt
+  next-within k h = next-fit _ (registers-within k h) (ports-within k h) (into-within k h)
+
+  pub column-within : (k : ℕ) → k < count → exceeds registerWidths (stretch registerWords k (columnNext count at rs ps)) ≡ false
+  unfolding columnNext
+  column-within k h =
+      rw (stretch-stacked (nextAt at rs ps) registerWords (next-length at rs ps) k count h) (fit-within (next-within k h))
+
+-- ---- a cleared column
+
+-- each slice of a cleared column holds zeros
+pub cleared-stretch : (n k count : ℕ) → k < count → stretch n k (replicate (n * count) 0) ≡ replicate n 0
+cleared-stretch n k count h =
+    rw (← stacked-zeros n count) (stretch-stacked (λ k. replicate n 0) n (λ k. length-replicate n 0) k count h)
+
+pub cleared-within : (k count : ℕ) → k < count → exceeds registerWidths (stretch registerWords k (replicate (registerWords * count) 0)) ≡ false
+cleared-within k count h = rw (cleared-stretch registerWords k count h) (fit-within (zeros-fit registerWidths))

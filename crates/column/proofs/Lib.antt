@@ -1,0 +1,9 @@
+pub mod Search
+pub mod Stacks
+pub mod Answers
+pub mod Faults
+pub mod Edges
+pub mod Fits
+pub mod Before
+pub mod Unique
+pub mod Values

@@ -1,0 +1,81 @@
+-- Facts by value that pin the column and its refusals: each stands beside a slip that would break it. Assumes nothing.
+use mathlib.Core.Path.{_≡_, refl}
+use mathlib.Core.List.{List, [], _∷_, _++_}
+use Prim.Native.Nat.{ℕ, _^_}
+use lib.ListN.{replicate}
+use Rattle.unit.specs.Unit.{arithmetic, logicRows, unitResult, preAdder, product, load}
+use Rattle.unit.specs.Detector.{unmasked, detected}
+use Rattle.slice.specs.Slice.{controlsOf, selectsOf, pathsOf, aSide, dSide, adOf, leftOf, rightOf, productOf, operandsOf, sliceOperands, resultOf, settledOf, sliceSettled, outputsOfSettled, cascadeOf, edge, nextOf, sliceOutputs, sliceCascade, sliceNext}
+use Rattle.slice.specs.Legal.{offList, badInmode, badOpmode, badAlumode, badCarryinsel}
+use Rattle.column.specs.declared.Answer.{Answer}
+use Rattle.column.specs.Column.{cascadeInto, shownAt, nextAt, columnShown, columnNext}
+use Rattle.column.specs.Refusals.{numberOf, placeOf, exceeds, broken, fails, settings, lengthsFit, clockAnswer, clearAnswer}
+
+-- a slice's words, of which all others are 0
+abbrev preg : List ℕ
+preg = 0 ∷ 0 ∷ 0 ∷ 0 ∷ 0 ∷ 0 ∷ 0 ∷ 0 ∷ 0 ∷ 0 ∷ 1 ∷ replicate 10 0
+
+abbrev p-holds : ℕ → List ℕ
+p-holds n = replicate 8 0 ++ (n ∷ replicate 9 0)
+
+-- C and OPMODE, CE P
+abbrev c-and-opmode : ℕ → ℕ → List ℕ
+c-and-opmode c opmode = 0 ∷ 0 ∷ c ∷ 0 ∷ opmode ∷ 0 ∷ 0 ∷ 0 ∷ 0 ∷ 256 ∷ 0 ∷ []
+
+abbrev told : Answer → List ℕ
+told a = numberOf a ∷ placeOf a ∷ []
+
+abbrev one : (at rs ps : List ℕ) → List ℕ
+one at rs ps = told (clockAnswer 1 at rs ps (replicate 5 0))
+
+abbrev two : (at rs ps : List ℕ) → List ℕ
+two at rs ps = told (clockAnswer 2 at rs ps (replicate 10 0))
+
+pub record Neighbours : Type 0 where
+  -- two slices with PREG 1, P 40 below and 2 above; below loads C (100), above adds PCIN (40, from before the edge) to its own P
+  pub before-the-edge : columnNext 2 (preg ++ preg) (p-holds 40 ++ p-holds 2) (c-and-opmode 100 12 ++ c-and-opmode 0 18)
+      ≡ p-holds 100 ++ p-holds 42
+  pub shown-before : columnShown 2 (preg ++ preg) (p-holds 40 ++ p-holds 2) (c-and-opmode 100 12 ++ c-and-opmode 0 18)
+      ≡ 40 ∷ 0 ∷ 0 ∷ 0 ∷ 0 ∷ 2 ∷ 0 ∷ 0 ∷ 0 ∷ 0 ∷ []
+
+pub record Refused : Type 0 where
+  pub none : one (replicate 21 0) (replicate 18 0) (replicate 11 0) ≡ 0 ∷ 0 ∷ []
+  pub no-slices : told (clockAnswer 0 [] [] [] []) ≡ 1 ∷ 0 ∷ []
+  pub too-many : told (clockAnswer 25 [] [] [] []) ≡ 1 ∷ 0 ∷ []
+  pub a-word-short : one (replicate 20 0) (replicate 18 0) (replicate 11 0) ≡ 2 ∷ 0 ∷ []
+  -- slice 1 has AREG 1 with ACASCREG 0
+  pub attribute : two (replicate 21 0 ++ (1 ∷ replicate 20 0)) (replicate 36 0) (replicate 22 0) ≡ 3 ∷ 1 ∷ []
+  -- slice 1's register A1 is 2^30, and slice 0's port RST 2^10
+  pub register-first : two (replicate 42 0) (replicate 18 0 ++ (2 ^ 30 ∷ replicate 17 0)) (replicate 10 0 ++ (2 ^ 10 ∷ replicate 11 0)) ≡ 4 ∷ 1 ∷ []
+  pub port : two (replicate 42 0) (replicate 36 0) (replicate 10 0 ++ (2 ^ 10 ∷ replicate 11 0)) ≡ 5 ∷ 0 ∷ []
+  -- INMODE 1 with AREG 0 in slice 1, and OPMODE 1 in slice 0: 6 comes before 7
+  pub inmode-first : two (replicate 42 0) (replicate 36 0) ((replicate 4 0 ++ (1 ∷ replicate 6 0)) ++ (replicate 6 0 ++ (1 ∷ replicate 4 0))) ≡ 6 ∷ 1 ∷ []
+  pub opmode : two (replicate 42 0) (replicate 36 0) ((replicate 4 0 ++ (1 ∷ replicate 6 0)) ++ (replicate 4 0 ++ (1 ∷ replicate 6 0))) ≡ 7 ∷ 0 ∷ []
+  pub alumode : one (replicate 21 0) (replicate 18 0) (replicate 5 0 ++ (8 ∷ replicate 5 0)) ≡ 8 ∷ 0 ∷ []
+  pub carryinsel : one (replicate 21 0) (replicate 18 0) (replicate 7 0 ++ (2 ∷ replicate 3 0)) ≡ 9 ∷ 0 ∷ []
+  -- a control register in effect that holds a forbidden setting refuses by itself
+  pub held : one (replicate 11 0 ++ (1 ∷ replicate 9 0)) (replicate 9 0 ++ (64 ∷ replicate 8 0)) (replicate 11 0) ≡ 7 ∷ 0 ∷ []
+  pub clearing : (told (clearAnswer 0 []) ≡ 1 ∷ 0 ∷ []) × (told (clearAnswer 1 []) ≡ 2 ∷ 0 ∷ []) × (told (clearAnswer 1 (replicate 18 9)) ≡ 0 ∷ 0 ∷ [])
+
+pub neighbours : Neighbours
+unfolding columnNext columnShown nextAt shownAt cascadeInto sliceNext nextOf edge load sliceOutputs sliceCascade outputsOfSettled cascadeOf sliceSettled settledOf resultOf sliceOperands operandsOf selectsOf productOf leftOf rightOf adOf aSide dSide controlsOf pathsOf unitResult arithmetic logicRows preAdder product detected unmasked
+neighbours = record { before-the-edge = refl; shown-before = refl }
+
+pub refused : Refused
+unfolding clockAnswer clearAnswer lengthsFit settings fails broken exceeds offList badInmode badOpmode badAlumode badCarryinsel controlsOf selectsOf
+refused =
+    record {
+      none = refl;
+      no-slices = refl;
+      too-many = refl;
+      a-word-short = refl;
+      attribute = refl;
+      register-first = refl;
+      port = refl;
+      inmode-first = refl;
+      opmode = refl;
+      alumode = refl;
+      carryinsel = refl;
+      held = refl;
+      clearing = (refl, refl, refl);
+    }

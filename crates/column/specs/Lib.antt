@@ -1,0 +1,4 @@
+pub mod Column
+pub mod Refusals
+pub mod Calls
+pub mod Parts

@@ -1,0 +1,119 @@
+-- The refusals of a clock and of clearing (01, "Refusal numbers"). Assumes nothing.
+use Prim.Native.Nat.{ℕ, zero, suc, _*_, _^_}
+use mathlib.Core.Bool.{Bool, true, false, _&&_, _||_}
+use mathlib.Core.List.{List}
+use lib.Dec.{leb, eqb}
+use lib.ListN.{length, getD}
+use Rattle.records.specs.Records.{attributeWords, registerWords, portWords, outputWords, attributeWidths, registerWidths, portWidths, attributesOf, registersOf, portsOf}
+use Rattle.slice.specs.declared.inputs.Controls.{Controls}
+use Rattle.slice.specs.Slice.{controlsOf, selectsOf}
+use Rattle.slice.specs.Legal.{offList, badInmode, badOpmode, badAlumode, badCarryinsel}
+use Rattle.column.specs.declared.Check.{Check}
+use Rattle.column.specs.declared.Check.the-variants.{Attribute, Register, Port, Inmode, Opmode, Alumode, Carryinsel}
+use Rattle.column.specs.declared.Answer.{Answer}
+use Rattle.column.specs.declared.Answer.the-variants.{Accepted, BadCount, BadLength, Broken}
+use Rattle.column.specs.declared.refusals.Found.{Found}
+use Rattle.column.specs.declared.refusals.Found.the-variants.{Nothing, At}
+use Rattle.column.specs.Column.{stretch}
+
+-- 01's number of each answer
+abbrev pub checkNumber : Check → ℕ
+checkNumber Attribute = 3
+checkNumber Register = 4
+checkNumber Port = 5
+checkNumber Inmode = 6
+checkNumber Opmode = 7
+checkNumber Alumode = 8
+checkNumber Carryinsel = 9
+
+abbrev pub numberOf : Answer → ℕ
+numberOf Accepted = 0
+numberOf BadCount = 1
+numberOf BadLength = 2
+numberOf (Broken check k) = checkNumber check
+
+-- and its slice: "0, 1 and 2 report slice 0"
+abbrev pub placeOf : Answer → ℕ
+placeOf Accepted = 0
+placeOf BadCount = 0
+placeOf BadLength = 0
+placeOf (Broken check k) = k
+
+-- the test holds at some number below n
+abbrev pub some : (ℕ → Bool) → (n : ℕ) → Bool
+some f zero = false
+some f (suc n) = some f n || f n
+
+-- a word exceeds its width
+unfoldable pub exceeds : (widths words : List ℕ) → Bool
+exceeds widths words = some (λ i. leb (2 ^ getD widths i 0) (getD words i 0)) (length widths)
+
+-- the control words in effect, of a slice's own words
+abbrev pub inEffect : (at rs ps : List ℕ) → Controls
+inEffect at rs ps = controlsOf (attributesOf at) (registersOf rs) (portsOf ps)
+
+-- Given exactly when: a slice's own words break the check
+unfoldable pub broken : Check → (at rs ps : List ℕ) → Bool
+broken Attribute at rs ps = exceeds attributeWidths at || offList (attributesOf at)
+broken Register at rs ps = exceeds registerWidths rs
+broken Port at rs ps = exceeds portWidths ps
+broken Inmode at rs ps = badInmode (attributesOf at) (inEffect at rs ps)
+broken Opmode at rs ps = badOpmode (attributesOf at) (selectsOf (inEffect at rs ps .opmode))
+broken Alumode at rs ps = badAlumode (inEffect at rs ps .alumode) (selectsOf (inEffect at rs ps .opmode))
+broken Carryinsel at rs ps = badCarryinsel (attributesOf at) (inEffect at rs ps)
+
+-- slice k of the lent words fails the check
+unfoldable pub fails : Check → (at rs ps : List ℕ) → (k : ℕ) → Bool
+fails check at rs ps k = broken check (stretch attributeWords k at) (stretch registerWords k rs) (stretch portWords k ps)
+
+abbrev pub orElse : Found → Bool → ℕ → Found
+orElse (At k) b n = At k
+orElse Nothing true n = At n
+orElse Nothing false n = Nothing
+
+-- "The lowest slice that fails a check is the one reported": the lowest number below n at which the test holds
+abbrev pub lowest : (ℕ → Bool) → (n : ℕ) → Found
+lowest f zero = Nothing
+lowest f (suc n) = orElse (lowest f n) (f n) n
+
+abbrev pub refuse : Check → Found → Answer → Answer
+refuse check Nothing next = next
+refuse check (At k) next = Broken check k
+
+abbrev pub unless : Bool → Answer → Answer → Answer
+unless true refused next = next
+unless false refused next = refused
+
+-- 3 to 9, each over all slices before the next
+unfoldable pub settings : (count : ℕ) → (at rs ps : List ℕ) → Answer
+settings count at rs ps =
+    refuse Attribute (lowest (fails Attribute at rs ps) count)
+    (refuse Register (lowest (fails Register at rs ps) count)
+    (refuse Port (lowest (fails Port at rs ps) count)
+    (refuse Inmode (lowest (fails Inmode at rs ps) count)
+    (refuse Opmode (lowest (fails Opmode at rs ps) count)
+    (refuse Alumode (lowest (fails Alumode at rs ps) count)
+    (refuse Carryinsel (lowest (fails Carryinsel at rs ps) count)
+    Accepted))))))
+
+-- 1: slice count is not 1 to 24
+abbrev pub countFits : (count : ℕ) → Bool
+countFits count = leb 1 count && leb count 24
+
+-- 2: a lent length differs from the required one
+unfoldable pub lengthsFit : (count : ℕ) → (at rs ps os : List ℕ) → Bool
+lengthsFit count at rs ps os =
+    eqb (length at) (attributeWords * count)
+    && eqb (length rs) (registerWords * count)
+    && eqb (length ps) (portWords * count)
+    && eqb (length os) (outputWords * count)
+
+-- Order for a clock: 1, 2, then 3 to 9
+unfoldable pub clockAnswer : (count : ℕ) → (at rs ps os : List ℕ) → Answer
+clockAnswer count at rs ps os =
+    unless (countFits count) BadCount (unless (lengthsFit count at rs ps os) BadLength (settings count at rs ps))
+
+-- Clearing checks 1, then 2
+unfoldable pub clearAnswer : (count : ℕ) → (rs : List ℕ) → Answer
+clearAnswer count rs =
+    unless (countFits count) BadCount (unless (eqb (length rs) (registerWords * count)) BadLength Accepted)

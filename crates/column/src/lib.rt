@@ -1,0 +1,88 @@
+// One column of 1 to 24 slices: a clock of it, and clearing. Both take whatever they are lent, and refuse what is malformed
+// or forbidden by number and lowest slice, with nothing changed.
+ghost use mathlib.Core.Path.{_≡_};
+ghost use Rattle.column.specs.Refusals.{numberOf, placeOf};
+ghost use Rattle.column.specs.Calls.{Clocked, Cleared};
+
+mod edge;
+mod refusals;
+mod stretch;
+
+pub use records::Attributes;
+pub use records::Outputs;
+pub use records::Ports;
+pub use records::Registers;
+
+// The checks that look into the lent words: numbers 3 to 9.
+pub enum Check {
+    Attribute,
+    Register,
+    Port,
+    Inmode,
+    Opmode,
+    Alumode,
+    Carryinsel,
+}
+
+// What a call answers. `Broken` names the check and the lowest slice that fails it.
+pub enum Answer {
+    Accepted,
+    BadCount,
+    BadLength,
+    Broken(Check, usize),
+}
+
+// One clock: the outputs settle from the registers before the edge and the ports; then all registers load at once.
+pub fn clock(
+    count: usize,
+    attributes: &[u64],
+    registers: &mut [u64],
+    ports: &[u64],
+    outputs: &mut [u64],
+) -> Answer
+    ensures { λ r.
+        ⌜ Clocked count (now (attributes .entry)) (now (registers .entry)) (now (ports .entry)) (now (outputs .entry)) r (now (registers .exit)) (now (outputs .exit)) ⌝ }
+{
+    let answer = refusals::clock_answer(count, attributes, &registers[..], ports, &outputs[..]);
+    let Answer::Accepted = answer else {
+        return answer;
+    };
+    edge::all_edges(count, attributes, registers, ports, outputs);
+    Answer::Accepted
+}
+
+// Every register becomes 0.
+pub fn clear(count: usize, registers: &mut [u64]) -> Answer
+    ensures { λ r. ⌜ Cleared count (now (registers .entry)) r (now (registers .exit)) ⌝ }
+{
+    let answer = refusals::clear_answer(count, &registers[..]);
+    let Answer::Accepted = answer else {
+        return answer;
+    };
+    stretch::zero(registers);
+    Answer::Accepted
+}
+
+// 01's number of an answer.
+pub fn number(answer: Answer) -> u64
+    ensures { λ r. ⌜ r ≡ numberOf answer ⌝ }
+{
+    match answer {
+        Answer::Accepted => 0,
+        Answer::BadCount => 1,
+        Answer::BadLength => 2,
+        Answer::Broken(check, _) => refusals::check_number(check),
+    }
+}
+
+// The slice that an answer reports.
+pub fn place(answer: Answer) -> usize
+    ensures { λ r. ⌜ r ≡ placeOf answer ⌝ }
+{
+    match answer {
+        Answer::Accepted => 0,
+        Answer::BadCount => 0,
+        Answer::BadLength => 0,
+        Answer::Broken(_, k) => k,
+    }
+}

@@ -1,0 +1,20 @@
+-- Facts by value that pin the border's rule. Assumes nothing.
+use mathlib.Core.Path.{_≡_, refl}
+use Prim.Native.Nat.{_+_, _^_}
+use Rattle.unit.specs.Unit.{adder}
+use Rattle.column.specs.declared.Check.the-variants.{Opmode}
+use Rattle.column.specs.declared.Answer.the-variants.{Accepted, BadLength, Broken}
+use Rattle.dsp48e2.specs.Border.{refusal, wordOf}
+
+pub record Words : Type 0 where
+  pub accepted : wordOf Accepted ≡ 0
+  pub length : wordOf BadLength ≡ 281474976710658
+  -- number 7 at slice 23
+  pub top-slice : wordOf (Broken Opmode 23) ≡ 281474976716551
+  -- the adder's two refusals are the rule at place 0
+  pub adder-5 : adder 0 (2 ^ 48) 0 0 0 8 ≡ refusal 0 5
+  pub adder-8 : adder 0 0 0 0 0 8 ≡ refusal 0 8
+
+pub words : Words
+unfolding wordOf adder
+words = record { accepted = refl; length = refl; top-slice = refl; adder-5 = refl; adder-8 = refl }

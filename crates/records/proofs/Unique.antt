@@ -1,0 +1,44 @@
+-- No second result fits the contract that a public function carries: of one call, two results that both meet its `ensures` (`Post`, as
+-- rattle reads it from the source) are equal. Assumes nothing.
+use mathlib.Core.Path.{sym, _∙_}
+use Rattle.word.proofs.Unique.{Once}
+use Rattle.records.proofs.Attributes.cleared.Kinds as attributes-cleared
+use Rattle.records.proofs.Attributes.cleared.Reads as attributes-cleared-reads
+use Rattle.records.proofs.Attributes.words.Kinds as attributes-words
+use Rattle.records.proofs.Attributes.words.Reads as attributes-words-reads
+use Rattle.records.proofs.Registers.cleared.Kinds as registers-cleared
+use Rattle.records.proofs.Registers.cleared.Reads as registers-cleared-reads
+use Rattle.records.proofs.Registers.words.Kinds as registers-words
+use Rattle.records.proofs.Registers.words.Reads as registers-words-reads
+use Rattle.records.proofs.Ports.cleared.Kinds as ports-cleared
+use Rattle.records.proofs.Ports.cleared.Reads as ports-cleared-reads
+use Rattle.records.proofs.Ports.words.Kinds as ports-words
+use Rattle.records.proofs.Ports.words.Reads as ports-words-reads
+use Rattle.records.proofs.Outputs.cleared.Kinds as outputs-cleared
+use Rattle.records.proofs.Outputs.cleared.Reads as outputs-cleared-reads
+use Rattle.records.proofs.Outputs.words.Kinds as outputs-words
+use Rattle.records.proofs.Outputs.words.Reads as outputs-words-reads
+
+pub attributes-cleared-once : Once attributes-cleared.ps attributes-cleared.r attributes-cleared-reads.Post
+attributes-cleared-once _ _ _ _ _ _ a b = a ∙ sym b
+
+pub attributes-words-once : Once attributes-words.ps attributes-words.r attributes-words-reads.Post
+attributes-words-once _ _ _ _ _ _ a b = a ∙ sym b
+
+pub registers-cleared-once : Once registers-cleared.ps registers-cleared.r registers-cleared-reads.Post
+registers-cleared-once _ _ _ _ _ _ a b = a ∙ sym b
+
+pub registers-words-once : Once registers-words.ps registers-words.r registers-words-reads.Post
+registers-words-once _ _ _ _ _ _ a b = a ∙ sym b
+
+pub ports-cleared-once : Once ports-cleared.ps ports-cleared.r ports-cleared-reads.Post
+ports-cleared-once _ _ _ _ _ _ a b = a ∙ sym b
+
+pub ports-words-once : Once ports-words.ps ports-words.r ports-words-reads.Post
+ports-words-once _ _ _ _ _ _ a b = a ∙ sym b
+
+pub outputs-cleared-once : Once outputs-cleared.ps outputs-cleared.r outputs-cleared-reads.Post
+outputs-cleared-once _ _ _ _ _ _ a b = a ∙ sym b
+
+pub outputs-words-once : Once outputs-words.ps outputs-words.r outputs-words-reads.Post
+outputs-words-once _ _ _ _ _ _ a b = a ∙ sym b

@@ -1,0 +1,5 @@
+pub mod Selects
+pub mod Widths
+pub mod Registered
+pub mod Unique
+pub mod Values

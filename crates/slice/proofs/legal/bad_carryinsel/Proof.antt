@@ -1,0 +1,12 @@
+-- `slice::legal::bad_carryinsel` meets its contract: the test is the definition's. Assumes nothing.
+use mathlib.Core.Path.{refl}
+use Rattle.slice.specs.Legal.{badCarryinsel}
+use Rattle.slice.proofs.legal.bad_carryinsel.Statement.{statement}
+use Rattle.slice.proofs.legal.bad_carryinsel.Tie as tie
+
+returns : tie.Need-returns
+unfolding badCarryinsel
+returns c = refl
+
+pub bad-carryinsel-spec : {M : Type 1} → statement M
+bad-carryinsel-spec = tie.close (tie.spec returns)

@@ -1,0 +1,12 @@
+-- `slice::legal::off_list` meets its contract: the test is the definition's. Assumes nothing.
+use borrow.Author.Needs.{needs}
+use Rattle.slice.specs.Legal.{offList}
+use Rattle.slice.proofs.legal.off_list.Statement.{statement}
+use Rattle.slice.proofs.legal.off_list.Tie as tie
+
+returns : tie.Need-returns
+unfolding offList
+returns c = cc
+
+pub off-list-spec : {M : Type 1} → statement M
+off-list-spec = tie.close (tie.spec (λ c κs. search needs) (λ c κs. search needs) returns)

@@ -1,0 +1,34 @@
+-- `slice::operands::carry_in` meets its contract: each arm is a place of the list, and the last chooses 0. Assumes nothing.
+use mathlib.Core.Path.{sym}
+use Prim.Native.Nat.{_-_}
+use borrow.Author.Needs.{needs}
+use Rattle.unit.specs.Choice.{bit}
+use Rattle.slice.proofs.Selects.{rest-cin}
+use Rattle.slice.proofs.operands.carry_in.Statement.{statement}
+use Rattle.slice.proofs.operands.carry_in.Tie as tie
+
+returns-2 : tie.Need-returns-2
+returns-2 c = rw (c .before .match .keys2, c .bit .ensures)
+
+returns-3 : tie.Need-returns-3
+returns-3 c = rw (c .before .match .keys3, c .bit2 .ensures)
+
+returns-4 : tie.Need-returns-4
+returns-4 c = rw (c .before .match .keys4, c .bit3 .ensures)
+
+returns-5 : tie.Need-returns-5
+returns-5 c = rw (c .before .match .keys5, c .bit4 .ensures)
+
+returns-6 : tie.Need-returns-6
+returns-6 c =
+    let x = c .before .args in
+    let n = c .match .rest in
+    let low = bit (x .below) 47 in
+    let own = bit (x .own) 47 in
+    sym (rest-cin (x .carryin) (1 - low) low (1 - own) own (x .select) (n .0 .0 .0 .0 .1) (n .0 .0 .0 .1) (n .0 .0 .1) (n .0 .1) (n .1))
+
+pub carry-in-spec : {M : Type 1} → statement M
+carry-in-spec =
+    tie.close
+    (tie.spec (λ c κs. search needs) (λ c. search needs) (λ c κs. search needs) (λ c κs. search needs) (λ c. search needs)
+    (λ c κs. search needs) (λ c. search needs) returns-2 returns-3 returns-4 returns-5 returns-6)

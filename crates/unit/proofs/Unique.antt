@@ -1,0 +1,39 @@
+-- No second result fits the contract that a public function carries: of one call, two results that both meet its `ensures` (`Post`, as
+-- rattle reads it from the source) are equal. Assumes nothing.
+use mathlib.Core.Path.{sym, _∙_}
+use Rattle.word.proofs.Unique.{Once}
+use Rattle.unit.proofs.result.Kinds as result-kinds
+use Rattle.unit.proofs.result.Reads as result-reads
+use Rattle.unit.proofs.pre_adder.Kinds as pre-adder-kinds
+use Rattle.unit.proofs.pre_adder.Reads as pre-adder-reads
+use Rattle.unit.proofs.multiply.Kinds as multiply-kinds
+use Rattle.unit.proofs.multiply.Reads as multiply-reads
+use Rattle.unit.proofs.extend48.Kinds as extend48-kinds
+use Rattle.unit.proofs.extend48.Reads as extend48-reads
+use Rattle.unit.proofs.detect.Kinds as detect-kinds
+use Rattle.unit.proofs.detect.Reads as detect-reads
+use Rattle.unit.proofs.load.Kinds as load-kinds
+use Rattle.unit.proofs.load.Reads as load-reads
+use Rattle.unit.proofs.adder.Kinds as adder-kinds
+use Rattle.unit.proofs.adder.Reads as adder-reads
+
+pub result-once : Once result-kinds.ps result-kinds.r result-reads.Post
+result-once _ _ _ _ _ _ a b = a ∙ sym b
+
+pub pre-adder-once : Once pre-adder-kinds.ps pre-adder-kinds.r pre-adder-reads.Post
+pre-adder-once _ _ _ _ _ _ a b = a ∙ sym b
+
+pub multiply-once : Once multiply-kinds.ps multiply-kinds.r multiply-reads.Post
+multiply-once _ _ _ _ _ _ a b = a ∙ sym b
+
+pub extend48-once : Once extend48-kinds.ps extend48-kinds.r extend48-reads.Post
+extend48-once _ _ _ _ _ _ a b = a ∙ sym b
+
+pub detect-once : Once detect-kinds.ps detect-kinds.r detect-reads.Post
+detect-once _ _ _ _ _ _ a b = a ∙ sym b
+
+pub load-once : Once load-kinds.ps load-kinds.r load-reads.Post
+load-once _ _ _ _ _ _ a b = a ∙ sym b
+
+pub adder-once : Once adder-kinds.ps adder-kinds.r adder-reads.Post
+adder-once _ _ _ _ _ _ a b = a ∙ sym b

@@ -1,0 +1,84 @@
+-- Values of the parts, in one statement, by computation: cases 1 to 6 and 8 to 10 of 01's "Values to hold against", and what 01's
+-- sentences say of the logic rows, the load and the adder call. Assumes nothing.
+use Prim.Native.Nat.{ℕ, _+_, _^_}
+use mathlib.Core.Path.{_≡_, refl}
+use lib.IntN.{negsuc}
+use Rattle.word.specs.Word.{word, signed, extend}
+use Rattle.unit.specs.Unit.{ones, arithmetic, logicRows, unitResult, preAdder, product, load, adder}
+use Rattle.unit.specs.Detector.{unmasked, detected}
+
+-- a logic mode's result at X 12 and Z 10, with a CIN that is ignored
+abbrev row : (mode y : ℕ) → ℕ
+row mode y = unitResult mode 0 12 y 10 1
+
+pub record Values : Type 0 where
+  pub case1 : unitResult 0 0 5 7 0 0 ≡ 12
+  pub case2 : unitResult 3 0 1 0 0 0 ≡ 281474976710655
+  pub case3 : unitResult 1 0 0 0 0 0 ≡ 281474976710655
+  pub case4 : unitResult 1 0 0 0 0 1 ≡ 0
+  pub case5 : unitResult 0 (ones 48) (ones 48) (ones 48) (ones 48) 1 ≡ 281474976710653
+  pub case6 : (unitResult 12 0 12 0 10 0 ≡ 8) × (unitResult 12 0 12 (ones 48) 10 0 ≡ 14)
+  pub case8 : (preAdder 0 67108863 1 ≡ 67108864) × (signed 27 67108864 ≡ negsuc 67108863)
+  pub case9 : product (word 27 (negsuc 67108863)) (word 18 (negsuc 131071)) ≡ 8796093022208
+  pub case10 : (detected 70368744177663 0 70368744177663 .pd ≡ 1)
+      × (detected 70368744177664 0 70368744177663 .pd ≡ 0)
+      × (detected 70368744177664 0 70368744177663 .pbd ≡ 0)
+      × (detected 211106232532992 0 70368744177663 .pbd ≡ 1)
+  -- mode 2 is the complement of the sum, and mode 3 takes CIN off
+  pub mode2 : unitResult 2 0 2 0 5 1 ≡ 281474976710647
+  pub mode3 : (unitResult 3 0 0 0 5 1 ≡ 4) × (unitResult 3 0 2 0 5 1 ≡ 2)
+  pub mode4 : (row 4 0 ≡ 6) × (row 4 (ones 48) ≡ 281474976710649)
+  pub mode5 : (row 5 0 ≡ 281474976710649) × (row 5 (ones 48) ≡ 6)
+  pub mode6 : (row 6 0 ≡ 281474976710649) × (row 6 (ones 48) ≡ 6)
+  pub mode7 : (row 7 0 ≡ 6) × (row 7 (ones 48) ≡ 281474976710649)
+  pub mode12 : (row 12 0 ≡ 8) × (row 12 (ones 48) ≡ 14)
+  pub mode13 : (row 13 0 ≡ 4) × (row 13 (ones 48) ≡ 281474976710653)
+  pub mode14 : (row 14 0 ≡ 281474976710647) × (row 14 (ones 48) ≡ 281474976710641)
+  pub mode15 : (row 15 0 ≡ 281474976710651) × (row 15 (ones 48) ≡ 2)
+  -- d - a below 0, a product with one side below 0, and its extension
+  pub subtracts : preAdder 1 0 1 ≡ 134217727
+  pub below-0 : product 134217727 1 ≡ 35184372088831
+  pub extends : extend 45 48 35184372088831 ≡ 281474976710655
+  pub resets : (load 1 1 7 9 ≡ 0) × (load 1 0 7 9 ≡ 0)
+  pub loads : load 0 1 7 9 ≡ 9
+  pub keeps : load 0 0 7 9 ≡ 7
+  pub over-width : (adder (2 ^ 48) 0 0 0 0 0 ≡ 2 ^ 48 + 5) × (adder 0 0 0 0 2 0 ≡ 2 ^ 48 + 5) × (adder 0 0 0 0 0 16 ≡ 2 ^ 48 + 5)
+  pub forbids : (adder 0 0 0 0 0 8 ≡ 2 ^ 48 + 8) × (adder 0 0 0 0 0 11 ≡ 2 ^ 48 + 8)
+      × (adder 1 0 0 0 0 4 ≡ 2 ^ 48 + 8) × (adder 0 0 1 0 0 4 ≡ 2 ^ 48 + 8)
+  pub width-first : adder (2 ^ 48) 0 0 0 0 8 ≡ 2 ^ 48 + 5
+  pub accepts : (adder 0 5 7 0 0 0 ≡ 12) × (adder 0 12 (ones 48) 10 1 12 ≡ 14)
+
+pub values : Values
+unfolding arithmetic logicRows unitResult preAdder product load adder unmasked detected
+values =
+    record {
+      case1 = refl;
+      case2 = refl;
+      case3 = refl;
+      case4 = refl;
+      case5 = refl;
+      case6 = (refl, refl);
+      case8 = (refl, refl);
+      case9 = refl;
+      case10 = (refl, refl, refl, refl);
+      mode2 = refl;
+      mode3 = (refl, refl);
+      mode4 = (refl, refl);
+      mode5 = (refl, refl);
+      mode6 = (refl, refl);
+      mode7 = (refl, refl);
+      mode12 = (refl, refl);
+      mode13 = (refl, refl);
+      mode14 = (refl, refl);
+      mode15 = (refl, refl);
+      subtracts = refl;
+      below-0 = refl;
+      extends = refl;
+      resets = (refl, refl);
+      loads = refl;
+      keeps = refl;
+      over-width = (refl, refl, refl);
+      forbids = (refl, refl, refl, refl);
+      width-first = refl;
+      accepts = (refl, refl);
+    }

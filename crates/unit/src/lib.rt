@@ -1,0 +1,170 @@
+// The parts of a slice on plain numbers: adder and logic unit, pre-adder, multiplier and its extension, detector, the load
+// of a register; and the C bench's adder. Every function takes every number, and reads as many low bits as it is wide.
+ghost use mathlib.Core.Path.{_≡_};
+ghost use mathlib.Core.Bool.{cond};
+ghost use Prim.Native.Nat.{_+_, _<_, _%_, _^_};
+ghost use lib.IntN.{pos, _-ℤ_};
+ghost use Rattle.word.specs.Word.{word, extend};
+ghost use Rattle.unit.specs.Unit.{arithmetic, byY, logicRows, unitResult, preAdder, product, load, within, forbidden, adder};
+ghost use Rattle.unit.specs.Detector.{detected};
+
+const ONES: u64 = 0xffff_ffff_ffff;
+
+// What the detector shows: PD and PBD.
+pub struct Detected {
+    pub pd: u64,
+    pub pbd: u64,
+}
+
+// a - b, modulo 2^48. 2^48 divides 2^64, so the wrapped difference leaves the remainder of the difference.
+fn difference(a: u64, b: u64) -> u64
+    ensures { λ r. ⌜ r ≡ word 48 (pos a -ℤ pos b) ⌝ }
+{
+    std::num::wrapping_sub_u64(a, b) % 0x1_0000_0000_0000
+}
+
+// W + X + Y + CIN, modulo 2^64.
+fn others(w: u64, x: u64, y: u64, cin: u64) -> u64
+    ensures { λ r. ⌜ r ≡ (w + x + y + cin) % 2 ^ 64 ⌝ }
+{
+    let wx = std::num::wrapping_add_u64(w, x);
+    std::num::wrapping_add_u64(std::num::wrapping_add_u64(wx, y), cin)
+}
+
+// Arithmetic modes 0 to 3.
+fn arithmetic_of(mode: u64, w: u64, x: u64, y: u64, z: u64, cin: u64) -> u64
+    ensures { λ r. ⌜ r ≡ arithmetic 48 mode w x y z cin ⌝ }
+{
+    let sum = others(w, x, y, cin);
+    match mode {
+        0 => std::num::wrapping_add_u64(z, sum) % 0x1_0000_0000_0000,
+        1 => difference(std::num::wrapping_add_u64(ONES, sum), z),
+        2 => difference(ONES, std::num::wrapping_add_u64(z, sum)),
+        3 => difference(z, sum),
+        _ => 0,
+    }
+}
+
+fn by_y(y: u64, a: u64, b: u64) -> u64
+    ensures { λ r. ⌜ r ≡ byY y a b ⌝ }
+{
+    if y == 0 { a } else { b }
+}
+
+// Logic modes, of 48-bit words x and z: the definition's rows.
+fn logic_of(mode: u64, x: u64, y: u64, z: u64) -> u64
+    requires { ⌜ (x < 2 ^ 48) × (z < 2 ^ 48) × (3 < mode) ⌝ }
+    ensures { λ r. ⌜ r ≡ logicRows mode x y z ⌝ }
+{
+    let differ = x ^ z;
+    let same = ONES - differ;
+    match mode {
+        4 => by_y(y, differ, same),
+        5 => by_y(y, same, differ),
+        6 => by_y(y, same, differ),
+        7 => by_y(y, differ, same),
+        12 => by_y(y, x & z, x | z),
+        13 => by_y(y, x & (ONES - z), x | (ONES - z)),
+        14 => by_y(y, ONES - (x & z), ONES - (x | z)),
+        15 => by_y(y, (ONES - x) | z, (ONES - x) & z),
+        _ => 0,
+    }
+}
+
+// The adder and logic unit.
+pub fn result(mode: u64, w: u64, x: u64, y: u64, z: u64, cin: u64) -> u64
+    ensures { λ r. ⌜ r ≡ unitResult mode w x y z cin ⌝ }
+{
+    if mode < 4 {
+        arithmetic_of(mode, w, x, y, z, cin)
+    } else {
+        logic_of(mode, x % 0x1_0000_0000_0000, y, z % 0x1_0000_0000_0000)
+    }
+}
+
+// The pre-adder: d + a, or d - a where `subtract` is not 0, modulo 2^27.
+pub fn pre_adder(subtract: u64, d: u64, a: u64) -> u64
+    ensures { λ r. ⌜ r ≡ preAdder subtract d a ⌝ }
+{
+    if subtract == 0 {
+        std::num::wrapping_add_u64(d, a) % 0x800_0000
+    } else {
+        std::num::wrapping_sub_u64(d, a) % 0x800_0000
+    }
+}
+
+// The exact product of 27 bits and 18 bits, both signed, in 45 bits.
+pub fn multiply(left: u64, right: u64) -> u64
+    ensures { λ r. ⌜ r ≡ product left right ⌝ }
+{
+    word::word_of(word::signed_of(left, 27) * word::signed_of(right, 18), 45)
+}
+
+// A product of 45 bits, sign-extended to 48.
+pub fn extend48(m: u64) -> u64
+    ensures { λ r. ⌜ r ≡ extend 45 48 m ⌝ }
+{
+    word::word_of(word::signed_of(m, 45), 48)
+}
+
+fn one_if(b: bool) -> u64
+    ensures { λ r. ⌜ r ≡ cond b 1 0 ⌝ }
+{
+    if b { 1 } else { 0 }
+}
+
+// The detector on the unit's result. Of the bits that differ from the pattern, or of the others, the mask must hide all.
+pub fn detect(p: u64, pattern: u64, mask: u64) -> Detected
+    ensures { λ r. ⌜ r ≡ detected p pattern mask ⌝ }
+{
+    let differ = (p ^ pattern) % 0x1_0000_0000_0000;
+    Detected {
+        pd: one_if(differ | mask == mask),
+        pbd: one_if((ONES - differ) | mask == mask),
+    }
+}
+
+// A register after the edge.
+pub fn load(reset: u64, enable: u64, word: u64, input: u64) -> u64
+    ensures { λ r. ⌜ r ≡ load reset enable word input ⌝ }
+{
+    if reset != 0 {
+        0
+    } else if enable != 0 {
+        input
+    } else {
+        word
+    }
+}
+
+// Every word is within its width. `&` on bools leaves no branch, so the value is the definition's own.
+fn is_within(w: u64, x: u64, y: u64, z: u64, cin: u64, alumode: u64) -> bool
+    ensures { λ r. ⌜ r ≡ within w x y z cin alumode ⌝ }
+{
+    (w < 0x1_0000_0000_0000)
+        & (x < 0x1_0000_0000_0000)
+        & (y < 0x1_0000_0000_0000)
+        & (z < 0x1_0000_0000_0000)
+        & (cin < 2)
+        & (alumode < 16)
+}
+
+// Modes 8 to 11, or a logic mode with W not 0 or Y neither 0 nor all ones.
+fn is_forbidden(w: u64, y: u64, alumode: u64) -> bool
+    ensures { λ r. ⌜ r ≡ forbidden w y alumode ⌝ }
+{
+    (8 <= alumode) & (alumode <= 11) | !(alumode < 4) & (!(w == 0) | !((y == 0) | (y == ONES)))
+}
+
+// The adder call for the C bench: the result, or 2^48+5 when a word is over width, or else 2^48+8 when the mode forbids it.
+pub fn adder(w: u64, x: u64, y: u64, z: u64, cin: u64, alumode: u64) -> u64
+    ensures { λ r. ⌜ r ≡ adder w x y z cin alumode ⌝ }
+{
+    if !is_within(w, x, y, z, cin, alumode) {
+        return 0x1_0000_0000_0005;
+    }
+    if is_forbidden(w, y, alumode) {
+        return 0x1_0000_0000_0008;
+    }
+    result(alumode, w, x, y, z, cin)
+}
