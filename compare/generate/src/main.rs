@@ -1,0 +1,78 @@
+//! Makes port listings and calls from a seed, and tallies what they met.
+
+mod book;
+mod calls;
+mod columns;
+mod draw;
+mod faults;
+mod oracle;
+mod random;
+mod seen;
+mod sweep_detector;
+mod sweep_edges;
+mod sweep_numbers;
+mod sweep_refusals;
+mod sweep_settings;
+mod sweep_text;
+mod table;
+mod tally;
+mod tally_calls;
+mod words;
+
+use std::io;
+use std::path::Path;
+use std::process::ExitCode;
+
+use book::Book;
+use random::Random;
+
+const USAGE: &str = "usage: generate listings SEED COUNT DIRECTORY
+       generate tally DIRECTORY ANSWERS
+       generate calls SEED COUNT
+       generate tally-calls CALLS ANSWERS";
+
+/// Writes the sweeps and then so many random listings.
+fn listings(seed: u64, count: u64, directory: &Path) -> io::Result<()> {
+    let mut random = Random::new(seed);
+    let mut book = Book::open(directory)?;
+    sweep_refusals::write(&mut book, &mut random)?;
+    sweep_settings::write(&mut book, &mut random)?;
+    sweep_numbers::write(&mut book)?;
+    sweep_edges::write(&mut book, &mut random)?;
+    sweep_detector::write(&mut book, &mut random)?;
+    sweep_text::write(&mut book, &mut random)?;
+    let swept = book.count();
+    columns::write(&mut book, &mut random, count)?;
+    println!("seed {seed}: {swept} listings swept, {count} random");
+    book.close()
+}
+
+fn run(arguments: &[&str]) -> io::Result<bool> {
+    let number = |text: &str| text.parse().map_err(|_| io::Error::other(USAGE));
+    match arguments {
+        ["listings", seed, count, directory] => {
+            listings(number(seed)?, number(count)?, Path::new(directory)).map(|()| true)
+        }
+        ["calls", seed, count] => {
+            let mut out = io::BufWriter::new(io::stdout().lock());
+            calls::write(&mut out, &mut Random::new(number(seed)?), number(count)?)?;
+            io::Write::flush(&mut out).map(|()| true)
+        }
+        ["tally-calls", calls, answers] => tally_calls::tally(Path::new(calls), Path::new(answers)),
+        ["tally", directory, answers] => tally::tally(Path::new(directory), Path::new(answers)),
+        _ => Err(io::Error::other(USAGE)),
+    }
+}
+
+fn main() -> ExitCode {
+    let arguments: Vec<String> = std::env::args().skip(1).collect();
+    let arguments: Vec<&str> = arguments.iter().map(String::as_str).collect();
+    match run(&arguments) {
+        Ok(true) => ExitCode::SUCCESS,
+        Ok(false) => ExitCode::FAILURE,
+        Err(error) => {
+            eprintln!("{error}");
+            ExitCode::from(2)
+        }
+    }
+}

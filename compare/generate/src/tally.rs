@@ -1,0 +1,168 @@
+//! Reads listings with their answers and counts what they met.
+
+use std::collections::HashMap;
+use std::fs;
+use std::io;
+use std::path::Path;
+
+use crate::book::{EXPECTED, LISTINGS};
+use crate::oracle::Controls;
+use crate::seen::Seen;
+use crate::table::Table;
+use crate::words::*;
+
+/// A tally under way.
+struct Tally {
+    table: Table,
+    seen: Seen,
+    endings: usize,
+    by_slice: HashMap<u64, usize>,
+    by_line: usize,
+    aims: usize,
+    aim_items: HashMap<String, usize>,
+    listings: u64,
+    clocks: u64,
+    slice_clocks: u64,
+    unexpected: u64,
+}
+
+/// Refusals that a slice is to blame for.
+const AT_SLICES: [u64; 6] = [3, 5, 6, 7, 8, 9];
+
+/// Prints the tally of a directory and tells whether all is met.
+pub fn tally(directory: &Path, answers: &Path) -> io::Result<bool> {
+    let mut tally = Tally::new();
+    for line in fs::read_to_string(directory.join(EXPECTED))?.lines() {
+        let [name, kind, aim, ending] = fields(line);
+        let listing = fs::read(directory.join(LISTINGS).join(name))?;
+        let answer = String::from_utf8_lossy(&fs::read(answers.join(name))?).into_owned();
+        tally.listing(name, kind, aim, ending, &listing, &answer);
+    }
+    let unmet = tally.table.print();
+    println!("listings: {}", tally.listings);
+    println!("clocks: {}", tally.clocks);
+    println!("slice-clocks: {}", tally.slice_clocks);
+    println!("endings other than the oracle's: {}", tally.unexpected);
+    Ok(unmet == 0 && tally.unexpected == 0)
+}
+
+fn fields(line: &str) -> [&str; 4] {
+    let fields: Vec<&str> = line.split('\t').collect();
+    fields.try_into().expect("four fields")
+}
+
+impl Tally {
+    fn new() -> Tally {
+        let mut table = Table::default();
+        let endings = table.group(
+            "endings",
+            ["E", "E 0", "R 1", "R 3", "R 5", "R 6", "R 7", "R 8", "R 9", "R 12"],
+        );
+        let by_slice = AT_SLICES
+            .map(|number| (number, table.group(&format!("refusal {number} at slice"), 0..24)))
+            .into();
+        let by_line = table.group("refusal 12 at line", (1..=10).map(|line| line.to_string()));
+        let seen = Seen::new(&mut table);
+        let aims = table.group("aims met", [] as [&str; 0]);
+        Tally {
+            table,
+            seen,
+            endings,
+            by_slice,
+            by_line,
+            aims,
+            aim_items: HashMap::new(),
+            listings: 0,
+            clocks: 0,
+            slice_clocks: 0,
+            unexpected: 0,
+        }
+    }
+
+    fn listing(
+        &mut self,
+        name: &str,
+        kind: &str,
+        aim: &str,
+        ending: &str,
+        listing: &[u8],
+        answer: &str,
+    ) {
+        self.listings += 1;
+        let last = answer.lines().last().unwrap_or("").replace('\t', " ");
+        let Some(clocks) = self.ending(&last) else {
+            println!("listing {name}: the answer has no end: {last:?}");
+            self.unexpected += 1;
+            return;
+        };
+        let (table, aims) = (&mut self.table, self.aims);
+        let items = &mut self.aim_items;
+        let item = *items.entry(aim.to_string()).or_insert_with(|| table.item(aims, aim));
+        if ending.is_empty() || ending == last {
+            table.met(aims, item);
+        } else {
+            println!("listing {name} ({aim}): ends {last:?}, the oracle says {ending:?}");
+            self.unexpected += 1;
+        }
+        let shown = answer.lines().filter(|line| line.starts_with('O')).count() as u64;
+        self.clocks += clocks;
+        self.slice_clocks += shown;
+        if kind == "column" && clocks > 0 {
+            self.column(listing, answer, clocks as usize);
+        }
+    }
+
+    /// Counts how an answer ends and gives the clocks it says were run.
+    fn ending(&mut self, last: &str) -> Option<u64> {
+        let mut parts = last.split(' ');
+        let tag = parts.next()?;
+        let numbers: Vec<u64> = parts.map(|part| part.parse().ok()).collect::<Option<_>>()?;
+        match (tag, &numbers[..]) {
+            ("E", [clocks]) => {
+                self.table.met(self.endings, usize::from(*clocks == 0));
+                Some(*clocks)
+            }
+            ("R", [number, clocks, place]) => {
+                let item = self.table.item(self.endings, &format!("R {number}"));
+                self.table.met(self.endings, item);
+                if let Some(group) = self.by_slice.get(number) {
+                    self.table.met(*group, *place as usize);
+                }
+                if *number == 12 && (1..=10).contains(place) {
+                    self.table.met(self.by_line, *place as usize - 1);
+                }
+                Some(*clocks)
+            }
+            _ => None,
+        }
+    }
+
+    /// Counts what the accepted clocks of a well-formed listing met.
+    fn column(&mut self, listing: &[u8], answer: &str, clocks: usize) {
+        let text = String::from_utf8_lossy(listing);
+        let attributes: Vec<Attributes> = words(&text, 'A');
+        let ports: Vec<Ports> = words(&text, 'P');
+        let mut held = vec![Controls::default(); attributes.len()];
+        self.seen.column(&mut self.table, &attributes);
+        for ports in ports.chunks(attributes.len()).take(clocks) {
+            self.seen.clock(&mut self.table, &attributes, &held, ports);
+            held.iter_mut().zip(ports).for_each(|(controls, po)| *controls = controls.after(po));
+        }
+        for shown in words::<7>(answer, 'O') {
+            let [_, slice, outputs @ ..] = shown;
+            self.seen.outputs(&mut self.table, &attributes[slice as usize], &outputs);
+        }
+    }
+}
+
+/// The numbers of all lines of one tag.
+fn words<const COUNT: usize>(text: &str, tag: char) -> Vec<[u64; COUNT]> {
+    let lines = text.lines().filter(|line| line.starts_with(tag));
+    lines
+        .map(|line| {
+            let numbers: Vec<u64> =
+                line.split('\t').skip(1).map(|word| word.parse().unwrap()).collect();
+            numbers.try_into().unwrap()
+        })
+        .collect()
+}

@@ -1,0 +1,139 @@
+//! Which word of a record is which, and how wide.
+
+pub type Attributes = [u64; 21];
+pub type Registers = [u64; 18];
+pub type Ports = [u64; 11];
+
+/// Places of the attributes.
+pub mod at {
+    pub const AREG: usize = 0;
+    pub const BREG: usize = 1;
+    pub const ACASCREG: usize = 2;
+    pub const BCASCREG: usize = 3;
+    pub const A_INPUT: usize = 4;
+    pub const B_INPUT: usize = 5;
+    pub const CREG: usize = 6;
+    pub const DREG: usize = 7;
+    pub const ADREG: usize = 8;
+    pub const MREG: usize = 9;
+    pub const PREG: usize = 10;
+    pub const OPMODEREG: usize = 11;
+    pub const ALUMODEREG: usize = 12;
+    pub const INMODEREG: usize = 13;
+    pub const CARRYINREG: usize = 14;
+    pub const CARRYINSELREG: usize = 15;
+    pub const USE_MULT: usize = 16;
+    pub const AMULTSEL: usize = 17;
+    pub const RND: usize = 18;
+    pub const PATTERN: usize = 19;
+    pub const MASK: usize = 20;
+}
+
+/// Places of the ports.
+pub mod po {
+    pub const A: usize = 0;
+    pub const B: usize = 1;
+    pub const C: usize = 2;
+    pub const D: usize = 3;
+    pub const OPMODE: usize = 4;
+    pub const ALUMODE: usize = 5;
+    pub const INMODE: usize = 6;
+    pub const CARRYINSEL: usize = 7;
+    pub const CARRYIN: usize = 8;
+    pub const CE: usize = 9;
+    pub const RST: usize = 10;
+}
+
+/// Places of the registers that hold controls.
+pub mod rg {
+    pub const OPMODE: usize = 9;
+    pub const ALUMODE: usize = 10;
+    pub const INMODE: usize = 11;
+    pub const CARRYINSEL: usize = 12;
+}
+
+pub const ATTRIBUTE_NAMES: [&str; 21] = [
+    "AREG",
+    "BREG",
+    "ACASCREG",
+    "BCASCREG",
+    "A_INPUT",
+    "B_INPUT",
+    "CREG",
+    "DREG",
+    "ADREG",
+    "MREG",
+    "PREG",
+    "OPMODEREG",
+    "ALUMODEREG",
+    "INMODEREG",
+    "CARRYINREG",
+    "CARRYINSELREG",
+    "USE_MULT",
+    "AMULTSEL",
+    "RND",
+    "PATTERN",
+    "MASK",
+];
+pub const PORT_NAMES: [&str; 11] =
+    ["A", "B", "C", "D", "OPMODE", "ALUMODE", "INMODE", "CARRYINSEL", "CARRYIN", "CE", "RST"];
+pub const CE_NAMES: [&str; 13] =
+    ["A1", "A2", "B1", "B2", "C", "D", "AD", "M", "P", "CTRL", "ALUMODE", "INMODE", "CARRYIN"];
+pub const RST_NAMES: [&str; 10] =
+    ["A", "B", "C", "D", "M", "P", "CTRL", "ALUMODE", "INMODE", "ALLCARRYIN"];
+
+pub const PORT_WIDTHS: [u32; 11] = [30, 18, 48, 27, 9, 4, 5, 3, 1, 13, 10];
+pub const REGISTER_WIDTHS: [u32; 18] =
+    [30, 30, 18, 18, 48, 27, 27, 45, 48, 9, 4, 5, 3, 1, 1, 1, 1, 1];
+
+/// CE and RST bits that bear on the control registers.
+pub const CE_CTRL: u64 = 1 << 9;
+pub const CE_ALUMODE: u64 = 1 << 10;
+pub const CE_INMODE: u64 = 1 << 11;
+pub const CE_ALL: u64 = 8191;
+pub const RST_CTRL: u64 = 1 << 6;
+pub const RST_ALUMODE: u64 = 1 << 7;
+pub const RST_INMODE: u64 = 1 << 8;
+pub const RST_ALL: u64 = 1023;
+
+/// All ones in so many bits.
+pub const fn ones(width: u32) -> u64 {
+    u64::MAX >> (64 - width)
+}
+
+/// The patterns at the edges of a width: 0, 1, all, the sign, all but it.
+pub fn edges(width: u32) -> [u64; 5] {
+    [0, 1, ones(width), 1 << (width - 1), ones(width) >> 1]
+}
+
+/// A column and the clocks it is to be given.
+#[derive(Clone, Default)]
+pub struct Column {
+    pub attributes: Vec<Attributes>,
+    pub clocks: Vec<Vec<Ports>>,
+}
+
+impl Column {
+    /// The listing, line by line with newlines.
+    pub fn lines(&self) -> Vec<Vec<u8>> {
+        let mut lines = vec![line('N', &[self.attributes.len() as u64])];
+        lines.extend(self.attributes.iter().map(|words| line('A', words)));
+        lines.extend(self.clocks.iter().flatten().map(|words| line('P', words)));
+        lines
+    }
+
+    pub fn text(&self) -> Vec<u8> {
+        self.lines().concat()
+    }
+}
+
+/// One line: the tag and its numbers.
+pub fn line(tag: char, words: &[u64]) -> Vec<u8> {
+    let mut line = tag.to_string();
+    for word in words {
+        line.push('\t');
+        line += &word.to_string();
+    }
+    line.push('\n');
+    line.into_bytes()
+}

@@ -1,0 +1,113 @@
+//! Plays a port listing: reads lines, clocks a column, prints what it shows.
+
+use std::io::{self, BufRead, Write};
+
+use crate::attributes::Attributes;
+use crate::column::{height, read_attributes, Column};
+use crate::lines::{numbers, Lines, Next};
+use crate::ports::Ports;
+use crate::refusal::{Reason, Refusal};
+use crate::slice::Outputs;
+
+/// How a listing's play can stop early.
+enum Stop {
+    Refused(Refusal),
+    Failed(io::Error),
+}
+
+impl From<Refusal> for Stop {
+    fn from(refusal: Refusal) -> Self {
+        Stop::Refused(refusal)
+    }
+}
+
+impl From<io::Error> for Stop {
+    fn from(error: io::Error) -> Self {
+        Stop::Failed(error)
+    }
+}
+
+/// A play under way.
+struct Play<R, W> {
+    lines: Lines<R>,
+    printed: W,
+    /// Lines asked for so far, so also the number of the current one.
+    line: u64,
+    clocks: u64,
+}
+
+/// Plays one listing; an error means that a read or a write failed.
+pub fn play(input: impl BufRead, output: impl Write) -> io::Result<()> {
+    let mut play = Play { lines: Lines::new(input), printed: output, line: 0, clocks: 0 };
+    let outcome = play.run();
+    let clocks = play.clocks;
+    match outcome {
+        Ok(()) => writeln!(play.printed, "E\t{clocks}")?,
+        Err(Stop::Refused(Refusal { reason, place })) => {
+            writeln!(play.printed, "R\t{}\t{clocks}\t{place}", reason as u64)?
+        }
+        Err(Stop::Failed(error)) => {
+            // What was shown before the failure stays shown.
+            play.printed.flush()?;
+            return Err(error);
+        }
+    }
+    play.printed.flush()
+}
+
+impl<R: BufRead, W: Write> Play<R, W> {
+    fn run(&mut self) -> Result<(), Stop> {
+        let count = self.due(b'N', 1)?[0];
+        let height = height(count)?;
+        let settings = self.group(b'A', Attributes::WORDS, height)?;
+        let mut column = Column::cleared(read_attributes(&settings)?);
+        while let Some(mut words) = self.line(b'P', Ports::WORDS)? {
+            words.extend(self.group(b'P', Ports::WORDS, height - 1)?);
+            let shown = column.clock_words(&words)?;
+            self.print(&shown)?;
+            self.clocks += 1;
+        }
+        Ok(())
+    }
+
+    /// The next line's numbers, or nothing at the end of the input.
+    fn line(&mut self, tag: u8, count: usize) -> Result<Option<Vec<u64>>, Stop> {
+        self.line += 1;
+        let read = match self.lines.next_line()? {
+            Next::End => return Ok(None),
+            Next::Broken => None,
+            Next::Line(line) => numbers(&line, tag, count),
+        };
+        read.map(Some).ok_or_else(|| self.malformed())
+    }
+
+    /// The next line's numbers, which must be there.
+    fn due(&mut self, tag: u8, count: usize) -> Result<Vec<u64>, Stop> {
+        self.line(tag, count)?.ok_or_else(|| self.malformed())
+    }
+
+    /// The numbers of several lines of one kind.
+    fn group(&mut self, tag: u8, count: usize, lines: usize) -> Result<Vec<u64>, Stop> {
+        let mut words = Vec::with_capacity(count * lines);
+        for _ in 0..lines {
+            words.extend(self.due(tag, count)?);
+        }
+        Ok(words)
+    }
+
+    fn malformed(&self) -> Stop {
+        Stop::Refused(Refusal::at(Reason::Line, self.line))
+    }
+
+    fn print(&mut self, shown: &[Outputs]) -> io::Result<()> {
+        for (slice, outputs) in shown.iter().enumerate() {
+            let [p, pd, pbd, overflow, underflow] = outputs.words();
+            let clock = self.clocks;
+            writeln!(
+                self.printed,
+                "O\t{clock}\t{slice}\t{p}\t{pd}\t{pbd}\t{overflow}\t{underflow}"
+            )?;
+        }
+        Ok(())
+    }
+}

@@ -1,0 +1,217 @@
+//! One slice: what its wires settle to, and what its edge loads.
+
+use crate::alu::{self, Operands};
+use crate::attributes::{Attributes, Pipeline, Stages};
+use crate::bits::{pattern, wrap};
+use crate::control::{AluMode, CarryInSel, InMode, OpMode, W, X, Y, Z};
+use crate::ports::{Enable, Ports, Reset};
+use crate::registers::Registers;
+
+/// What a slice hands to the one above it; the default lies below slice 0.
+#[derive(Clone, Copy, Debug, Default)]
+pub struct Cascade {
+    pub a: i64,
+    pub b: i64,
+    pub p: i64,
+}
+
+/// The dynamic controls in effect, already judged.
+#[derive(Clone, Copy, Debug)]
+pub struct Controls {
+    pub inmode: InMode,
+    pub opmode: OpMode,
+    pub alumode: AluMode,
+    pub carryinsel: CarryInSel,
+}
+
+/// What a slice shows to the outside.
+#[derive(Clone, Copy, Debug, Default, PartialEq, Eq)]
+pub struct Outputs {
+    pub p: i64,
+    pub pd: bool,
+    pub pbd: bool,
+    pub overflow: bool,
+    pub underflow: bool,
+}
+
+impl Outputs {
+    pub const WORDS: usize = 5;
+
+    pub fn words(&self) -> [u64; Self::WORDS] {
+        [
+            pattern(self.p, 48),
+            self.pd.into(),
+            self.pbd.into(),
+            self.overflow.into(),
+            self.underflow.into(),
+        ]
+    }
+}
+
+/// Every wire the edge or the outside looks at, before the edge.
+#[derive(Clone, Copy, Debug)]
+pub struct Shown {
+    a_input: i64,
+    b_input: i64,
+    ad: i64,
+    product: i64,
+    result: i64,
+    pd: bool,
+    pbd: bool,
+    pub outputs: Outputs,
+    pub above: Cascade,
+}
+
+/// One slice with everything that bears on it during a clock.
+pub struct Wired<'a> {
+    pub attributes: &'a Attributes,
+    pub registers: &'a Registers,
+    pub ports: &'a Ports,
+    pub controls: &'a Controls,
+    pub below: Cascade,
+}
+
+impl Wired<'_> {
+    /// Lets the wires settle; no register changes here.
+    pub fn settle(&self) -> Shown {
+        let (att, reg) = (self.attributes, self.registers);
+        let a_input = if att.a.from_below { self.below.a } else { self.ports.a };
+        let b_input = if att.b.from_below { self.below.b } else { self.ports.b };
+        let a_path = path(&att.a, a_input, reg.a2);
+        let b_path = path(&att.b, b_input, reg.b2);
+        let (ad, product) = self.multiply(a_path, b_path);
+        let m_path = if att.m_held { reg.m } else { product };
+        let result = alu::settle(self.controls.alumode, self.operands(a_path, b_path, m_path));
+        // Differing bits that the mask leaves in sight.
+        let differ = result ^ att.pattern;
+        let pd = differ & !att.mask == 0;
+        let pbd = !differ & !att.mask == 0;
+        let outputs = self.outputs(result, pd, pbd);
+        let above = Cascade {
+            a: if att.a.early_tap { reg.a1 } else { a_path },
+            b: if att.b.early_tap { reg.b1 } else { b_path },
+            p: outputs.p,
+        };
+        Shown { a_input, b_input, ad, product, result, pd, pbd, outputs, above }
+    }
+
+    /// The pre-adder's sum and the product, both before their registers.
+    fn multiply(&self, a_path: i64, b_path: i64) -> (i64, i64) {
+        let (att, reg, mode) = (self.attributes, self.registers, self.controls.inmode);
+        let a_taken = if mode.early_a { reg.a1 } else { a_path };
+        let a = if mode.zero_a { 0 } else { wrap(a_taken, 27) };
+        let d_path = if att.d_held { reg.d } else { self.ports.d };
+        let d = if mode.use_d { d_path } else { 0 };
+        let ad = wrap(if mode.subtract { d - a } else { d + a }, 27);
+        let ad_path = if att.ad_held { reg.ad } else { ad };
+        let left = if att.preadds { ad_path } else { a };
+        let right = if mode.early_b { reg.b1 } else { b_path };
+        (ad, left * right)
+    }
+
+    fn operands(&self, a_path: i64, b_path: i64, m_path: i64) -> Operands {
+        let (att, reg, mode) = (self.attributes, self.registers, self.controls.opmode);
+        let c_path = if att.c_held { reg.c } else { self.ports.c };
+        Operands {
+            w: match mode.w {
+                W::Zero => 0,
+                W::P => reg.p,
+                W::Rnd => att.rnd,
+                W::C => c_path,
+            },
+            x: match mode.x {
+                X::Zero => 0,
+                X::Product => m_path,
+                X::P => reg.p,
+                X::AB => a_path << 18 | pattern(b_path, 18) as i64,
+            },
+            y: match mode.y {
+                // X brings the whole product, so Y adds nothing to it.
+                Y::Zero | Y::Product => 0,
+                Y::Ones => -1,
+                Y::C => c_path,
+            },
+            z: match mode.z {
+                Z::Zero => 0,
+                Z::Pcin => self.below.p,
+                Z::P => reg.p,
+                Z::C => c_path,
+                Z::PcinShifted => self.below.p >> 17,
+                Z::PShifted => reg.p >> 17,
+            },
+            carry: self.carry(),
+        }
+    }
+
+    fn carry(&self) -> bool {
+        match self.controls.carryinsel {
+            CarryInSel::Path if self.attributes.carryin_held => self.registers.carryin,
+            CarryInSel::Path => self.ports.carryin,
+            CarryInSel::NotPcinSign => self.below.p >= 0,
+            CarryInSel::PcinSign => self.below.p < 0,
+            CarryInSel::NotPSign => self.registers.p >= 0,
+            CarryInSel::PSign => self.registers.p < 0,
+        }
+    }
+
+    fn outputs(&self, result: i64, pd: bool, pbd: bool) -> Outputs {
+        let reg = self.registers;
+        if !self.attributes.p_held {
+            return Outputs { p: result, pd, pbd, overflow: false, underflow: false };
+        }
+        Outputs {
+            p: reg.p,
+            pd: reg.pd,
+            pbd: reg.pbd,
+            overflow: reg.pd_past && !reg.pd,
+            underflow: reg.pbd_past && !reg.pbd,
+        }
+    }
+}
+
+/// The A or B path: the input, or the last register before the multiplier.
+fn path(pipeline: &Pipeline, input: i64, last: i64) -> i64 {
+    if pipeline.stages == Stages::None {
+        input
+    } else {
+        last
+    }
+}
+
+/// One register over the edge: a reset outranks the enable.
+fn next<T: Default>(old: T, new: T, ports: &Ports, enable: Enable, reset: Reset) -> T {
+    if ports.reset(reset) {
+        T::default()
+    } else if ports.enabled(enable) {
+        new
+    } else {
+        old
+    }
+}
+
+/// All registers over the edge, bypassed or not, from what settled before it.
+pub fn edge(attributes: &Attributes, old: &Registers, ports: &Ports, shown: &Shown) -> Registers {
+    use {Enable as E, Reset as R};
+    let a2_from = if attributes.a.stages == Stages::Two { old.a1 } else { shown.a_input };
+    let b2_from = if attributes.b.stages == Stages::Two { old.b1 } else { shown.b_input };
+    Registers {
+        a1: next(old.a1, shown.a_input, ports, E::A1, R::A),
+        a2: next(old.a2, a2_from, ports, E::A2, R::A),
+        b1: next(old.b1, shown.b_input, ports, E::B1, R::B),
+        b2: next(old.b2, b2_from, ports, E::B2, R::B),
+        c: next(old.c, ports.c, ports, E::C, R::C),
+        d: next(old.d, ports.d, ports, E::D, R::D),
+        ad: next(old.ad, shown.ad, ports, E::Ad, R::D),
+        m: next(old.m, shown.product, ports, E::M, R::M),
+        p: next(old.p, shown.result, ports, E::P, R::P),
+        opmode: next(old.opmode, ports.opmode, ports, E::Ctrl, R::Ctrl),
+        alumode: next(old.alumode, ports.alumode, ports, E::AluMode, R::AluMode),
+        inmode: next(old.inmode, ports.inmode, ports, E::InMode, R::InMode),
+        carryinsel: next(old.carryinsel, ports.carryinsel, ports, E::Ctrl, R::Ctrl),
+        carryin: next(old.carryin, ports.carryin, ports, E::CarryIn, R::AllCarryIn),
+        pd: next(old.pd, shown.pd, ports, E::P, R::P),
+        pbd: next(old.pbd, shown.pbd, ports, E::P, R::P),
+        pd_past: next(old.pd_past, old.pd, ports, E::P, R::P),
+        pbd_past: next(old.pbd_past, old.pbd, ports, E::P, R::P),
+    }
+}

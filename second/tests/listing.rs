@@ -1,0 +1,138 @@
+//! Listings byte for byte: the worked example and the edges of the text.
+
+const N1: &str = "N\t1\n";
+const A0: &str = "A\t0\t0\t0\t0\t0\t0\t0\t0\t0\t0\t0\t0\t0\t0\t0\t0\t0\t0\t0\t0\t0\n";
+const P12: &str = "P\t0\t5\t7\t0\t15\t0\t0\t0\t0\t0\t0\n";
+
+fn played(listing: impl AsRef<[u8]>) -> String {
+    let mut printed = Vec::new();
+    second::listing::play(listing.as_ref(), &mut printed).unwrap();
+    String::from_utf8(printed).unwrap()
+}
+
+#[test]
+fn the_worked_example() {
+    assert_eq!(played(format!("{N1}{A0}{P12}")), "O\t0\t0\t12\t0\t0\t0\t0\nE\t1\n");
+}
+
+#[test]
+fn no_clocks_at_all() {
+    assert_eq!(played(format!("{N1}{A0}")), "E\t0\n");
+    assert_eq!(played(format!("{N1}{}", A0.replace("A\t0", "A\t3"))), "R\t3\t0\t0\n");
+}
+
+#[test]
+fn missing_lines() {
+    assert_eq!(played(""), "R\t12\t0\t1\n");
+    assert_eq!(played(N1), "R\t12\t0\t2\n");
+    assert_eq!(played(format!("N\t2\n{A0}")), "R\t12\t0\t3\n");
+    assert_eq!(played(format!("N\t2\n{A0}{A0}{P12}")), "R\t12\t0\t5\n");
+}
+
+#[test]
+fn missing_newlines() {
+    assert_eq!(played("N\t25"), "R\t12\t0\t1\n");
+    assert_eq!(played("N\t25\n"), "R\t1\t0\t0\n");
+    assert_eq!(played(format!("{N1}{}", A0.trim_end())), "R\t12\t0\t2\n");
+    let shown = "O\t0\t0\t12\t0\t0\t0\t0\n";
+    assert_eq!(played(format!("{N1}{A0}{P12}P")), format!("{shown}R\t12\t1\t4\n"));
+}
+
+#[test]
+fn line_length() {
+    let long = |bytes: usize| format!("{N1}{A0}{}", "0".repeat(bytes));
+    for bytes in [1, 511, 512, 513, 514, 9999] {
+        assert_eq!(played(long(bytes)), "R\t12\t0\t3\n");
+        assert_eq!(played(long(bytes) + "\n"), "R\t12\t0\t3\n");
+    }
+}
+
+/// A stream that must not be read past its given bytes.
+struct Fenced<'a>(&'a [u8]);
+
+impl std::io::Read for Fenced<'_> {
+    fn read(&mut self, buffer: &mut [u8]) -> std::io::Result<usize> {
+        assert!(!self.0.is_empty(), "read past the byte that decides");
+        self.0.read(buffer)
+    }
+}
+
+#[test]
+fn refusals_come_as_soon_as_they_can() {
+    let play = |bytes: &[u8]| {
+        let mut printed = Vec::new();
+        second::listing::play(std::io::BufReader::new(Fenced(bytes)), &mut printed).unwrap();
+        String::from_utf8(printed).unwrap()
+    };
+    assert_eq!(play(&[b'x'; 513]), "R\t12\t0\t1\n");
+    assert_eq!(play(b"N\t25\n"), "R\t1\t0\t0\n");
+    assert_eq!(play(b"N\t01\n"), "R\t12\t0\t1\n");
+}
+
+#[test]
+fn a_failed_read_prints_no_end() {
+    struct Failing<'a>(&'a [u8]);
+    impl std::io::Read for Failing<'_> {
+        fn read(&mut self, buffer: &mut [u8]) -> std::io::Result<usize> {
+            match self.0.read(buffer)? {
+                0 => Err(std::io::ErrorKind::Other.into()),
+                count => Ok(count),
+            }
+        }
+    }
+    let listing = format!("{N1}{A0}{P12}");
+    let mut printed = Vec::new();
+    let input = std::io::BufReader::new(Failing(listing.as_bytes()));
+    assert!(second::listing::play(input, &mut printed).is_err());
+    assert_eq!(printed, b"O\t0\t0\t12\t0\t0\t0\t0\n");
+}
+
+#[test]
+fn numbers_as_text() {
+    for bad in [
+        "",
+        "+1",
+        "-1",
+        "01",
+        "00",
+        " 1",
+        "1 ",
+        "1\r",
+        "1\0",
+        "1\t",
+        "\t1",
+        "0x1",
+        "1.0",
+        "1e0",
+        "18446744073709551616",
+        "99999999999999999999",
+        "184467440737095516150",
+        "\u{661}",
+    ] {
+        assert_eq!(played(format!("N\t{bad}\n")), "R\t12\t0\t1\n", "{bad:?}");
+    }
+    assert_eq!(played("N\t18446744073709551615\n"), "R\t1\t0\t0\n");
+}
+
+#[test]
+fn tags_as_text() {
+    for bad in
+        ["", "\n", "n\t1\n", "NN\t1\n", "N1\n", "N\n", "N\t1\t1\n", "\t1\n", "\u{feff}N\t1\n"]
+    {
+        assert_eq!(played(bad), "R\t12\t0\t1\n", "{bad:?}");
+    }
+    assert_eq!(played(format!("{N1}{P12}")), "R\t12\t0\t2\n");
+    assert_eq!(played(format!("{N1}{A0}{A0}")), "R\t12\t0\t3\n");
+    assert_eq!(played(format!("{N1}{A0}\n")), "R\t12\t0\t3\n");
+    assert_eq!(played([N1.as_bytes(), b"\xff\n"].concat()), "R\t12\t0\t2\n");
+}
+
+#[test]
+fn meaning_waits_for_the_group() {
+    let wrong = A0.replace("A\t0", "A\t3");
+    assert_eq!(played(format!("N\t2\n{wrong}A\n")), "R\t12\t0\t3\n");
+    assert_eq!(played(format!("N\t2\n{wrong}{A0}P\n")), "R\t3\t0\t0\n");
+    let wide = P12.replace("P\t0", "P\t18446744073709551615");
+    assert_eq!(played(format!("N\t2\n{A0}{A0}{wide}P\n")), "R\t12\t0\t5\n");
+    assert_eq!(played(format!("N\t2\n{A0}{A0}{wide}{P12}P\n")), "R\t5\t0\t0\n");
+}
