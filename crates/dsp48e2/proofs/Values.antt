@@ -4,7 +4,8 @@ use Prim.Native.Nat.{_+_, _^_}
 use Rattle.unit.specs.Unit.{adder}
 use Rattle.column.specs.declared.Check.the-variants.{Opmode}
 use Rattle.column.specs.declared.Answer.the-variants.{Accepted, BadLength, Broken}
-use Rattle.dsp48e2.specs.Border.{refusal, wordOf}
+use Rattle.packed.specs.declared.Run.the-variants.{Ran, BadTerms, BadRows, BadLength as BadLen}
+use Rattle.dsp48e2.specs.Border.{refusal, wordOf, runWord}
 
 pub record Words : Type 0 where
   pub accepted : wordOf Accepted ≡ 0
@@ -14,7 +15,19 @@ pub record Words : Type 0 where
   -- the adder's two refusals are the rule at place 0
   pub adder-5 : adder 0 (2 ^ 48) 0 0 0 8 ≡ refusal 0 5
   pub adder-8 : adder 0 0 0 0 0 8 ≡ refusal 0 8
+  -- a run of 11 clocks, a plain one, and the refusals of a packed run at place 0
+  pub run-11 : (runWord (Ran 11) ≡ 11) × (runWord (Ran 0) ≡ 0)
+  pub run-refused : (runWord BadTerms ≡ refusal 0 10) × (runWord BadRows ≡ refusal 0 11) × (runWord BadLen ≡ refusal 0 2)
 
 pub words : Words
-unfolding wordOf adder
-words = record { accepted = refl; length = refl; top-slice = refl; adder-5 = refl; adder-8 = refl }
+unfolding wordOf runWord adder
+words =
+    record {
+      accepted = refl;
+      length = refl;
+      top-slice = refl;
+      adder-5 = refl;
+      adder-8 = refl;
+      run-11 = (refl, refl);
+      run-refused = (refl, refl, refl);
+    }

@@ -5,12 +5,16 @@ use mathlib.Core.Path.{_≡_, _∙_, sym}
 use mathlib.Core.Bool.{cond}
 use mathlib.Core.List.{List}
 use lib.Dec.{eqb}
+use lib.IntN.{ℤ}
 use lib.ListN.{replicate}
 use Rattle.records.specs.Records.{registerWords}
 use Rattle.column.specs.declared.Answer.{Answer}
 use Rattle.column.specs.Column.{columnShown, columnNext}
 use Rattle.column.specs.Refusals.{numberOf, placeOf, clockAnswer, clearAnswer}
 use Rattle.column.specs.Calls.{leaves}
+use Rattle.packed.specs.declared.Run.{Run}
+use Rattle.packed.specs.Packed.{Batch, runList, readAnswers, plainAnswers}
+use Rattle.packed.specs.Calls.{numberOf as runNumber, clocksOf, leaves as runLeaves, clockedRun, plainRun}
 
 -- a refusal: 2^48, 256 for each slice below the one reported, and the number
 abbrev pub refusal : (place number : ℕ) → ℕ
@@ -31,6 +35,22 @@ pub record ClearedC (count : ℕ) (rs : List ℕ) (r : ℕ) (rs′ : List ℕ) :
   pub word : r ≡ wordOf (clearAnswer count rs)
   pub registers : rs′ ≡ leaves (clearAnswer count rs) (replicate (registerWords * count) 0) rs
 
+-- the returned word of a packed run: the clocks it stepped, which are 0 for the plain run
+unfoldable pub runWord : Run → ℕ
+runWord run = cond (eqb (runNumber run) 0) (clocksOf run) (refusal 0 (runNumber run))
+
+-- `dsp_packed_clocked`, of the lent answers os and the lent list ws
+pub record ClockedRunC (g : Batch) (os : List ℤ) (ws : List ℕ) (r : ℕ) (os′ : List ℤ) (ws′ : List ℕ) : Type 0 where
+  pub word : r ≡ runWord (clockedRun g os ws)
+  pub list : ws′ ≡ runLeaves (clockedRun g os ws) (runList g) ws
+  pub answers : os′ ≡ runLeaves (clockedRun g os ws) (readAnswers (g .terms) (g .rows) (runList g)) os
+  pub exact : os′ ≡ runLeaves (clockedRun g os ws) (plainAnswers g) os
+
+-- `dsp_packed_plain`
+pub record PlainRunC (g : Batch) (os : List ℤ) (r : ℕ) (os′ : List ℤ) : Type 0 where
+  pub word : r ≡ runWord (plainRun g os)
+  pub answers : os′ ≡ runLeaves (plainRun g os) (plainAnswers g) os
+
 -- no second outcome fits
 pub one-clock : {count : ℕ} {at rs ps os : List ℕ} {r₁ r₂ : ℕ} {rs₁ rs₂ os₁ os₂ : List ℕ}
     → ClockedC count at rs ps os r₁ rs₁ os₁ → ClockedC count at rs ps os r₂ rs₂ os₂ → (r₁ ≡ r₂) × (rs₁ ≡ rs₂) × (os₁ ≡ os₂)
@@ -39,3 +59,11 @@ one-clock a b = (a .word ∙ sym (b .word), a .registers ∙ sym (b .registers),
 pub one-clear : {count : ℕ} {rs : List ℕ} {r₁ r₂ : ℕ} {rs₁ rs₂ : List ℕ}
     → ClearedC count rs r₁ rs₁ → ClearedC count rs r₂ rs₂ → (r₁ ≡ r₂) × (rs₁ ≡ rs₂)
 one-clear a b = (a .word ∙ sym (b .word), a .registers ∙ sym (b .registers))
+
+pub one-clocked-run : {g : Batch} {os : List ℤ} {ws : List ℕ} {r₁ r₂ : ℕ} {os₁ os₂ : List ℤ} {ws₁ ws₂ : List ℕ}
+    → ClockedRunC g os ws r₁ os₁ ws₁ → ClockedRunC g os ws r₂ os₂ ws₂ → (r₁ ≡ r₂) × (os₁ ≡ os₂) × (ws₁ ≡ ws₂)
+one-clocked-run a b = (a .word ∙ sym (b .word), a .answers ∙ sym (b .answers), a .list ∙ sym (b .list))
+
+pub one-plain-run : {g : Batch} {os : List ℤ} {r₁ r₂ : ℕ} {os₁ os₂ : List ℤ}
+    → PlainRunC g os r₁ os₁ → PlainRunC g os r₂ os₂ → (r₁ ≡ r₂) × (os₁ ≡ os₂)
+one-plain-run a b = (a .word ∙ sym (b .word), a .answers ∙ sym (b .answers))

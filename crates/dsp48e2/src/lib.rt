@@ -3,8 +3,10 @@ ghost use mathlib.Core.Path.{_≡_};
 ghost use Prim.Native.Nat.{_<_};
 ghost use Rattle.unit.specs.Unit.{adder};
 ghost use Rattle.column.specs.Refusals.{placeOf};
-ghost use Rattle.dsp48e2.specs.Border.{wordOf, ClockedC, ClearedC};
+ghost use Rattle.dsp48e2.specs.Border.{wordOf, ClockedC, ClearedC, runWord, ClockedRunC, PlainRunC};
+ghost use Rattle.packed.specs.Packed.{batch};
 use column::Answer;
+use packed::Run;
 
 // The returned word of an answer.
 fn word_of(answer: Answer) -> u64
@@ -47,4 +49,48 @@ pub extern "C" fn dsp_clear(count: u64, registers: &mut [u64]) -> u64
     ensures { λ r. ⌜ ClearedC count (now (registers .entry)) r (now (registers .exit)) ⌝ }
 {
     word_of(column::clear(count as usize, registers))
+}
+
+// The returned word of a packed run.
+fn run_word(run: Run) -> u64
+    ensures { λ r. ⌜ r ≡ runWord run ⌝ }
+{
+    let number = packed::number(run);
+    if number == 0 {
+        return packed::clocks(run);
+    }
+    0x1_0000_0000_0000 + number
+}
+
+// The packed run, stepped clock by clock: the clocks it stepped when accepted, one for each word of the list.
+#[no_mangle]
+pub extern "C" fn dsp_packed_clocked(
+    terms: u64,
+    rows: u64,
+    a: &[i8],
+    d: &[i8],
+    b: &[i8],
+    answers: &mut [i32],
+    list: &mut [u64],
+) -> u64
+    ensures { λ r.
+        ⌜ ClockedRunC (batch terms rows (now (a .entry)) (now (d .entry)) (now (b .entry))) (now (answers .entry)) (now (list .entry)) r (now (answers .exit)) (now (list .exit)) ⌝ }
+{
+    run_word(packed::packed_clocked(terms as usize, rows as usize, a, d, b, answers, list))
+}
+
+// The packed run worked out directly; 0 when accepted.
+#[no_mangle]
+pub extern "C" fn dsp_packed_plain(
+    terms: u64,
+    rows: u64,
+    a: &[i8],
+    d: &[i8],
+    b: &[i8],
+    answers: &mut [i32],
+) -> u64
+    ensures { λ r.
+        ⌜ PlainRunC (batch terms rows (now (a .entry)) (now (d .entry)) (now (b .entry))) (now (answers .entry)) r (now (answers .exit)) ⌝ }
+{
+    run_word(packed::packed_plain(terms as usize, rows as usize, a, d, b, answers))
 }

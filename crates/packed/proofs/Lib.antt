@@ -1,0 +1,14 @@
+pub mod Sizes
+pub mod Dots
+pub mod Fed
+pub mod Fill
+pub mod Trace
+pub mod Accepted
+pub mod Tops
+pub mod Theorem
+pub mod Passing
+pub mod Stepping
+pub mod Agree
+pub mod Unique
+pub mod Cases
+pub mod Values

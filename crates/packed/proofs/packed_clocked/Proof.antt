@@ -1,0 +1,70 @@
+-- `packed::packed_clocked` meets its contract: a refusal leaves every word, and else the list is the run's and the answers are read off it.
+-- Assumes nothing.
+use mathlib.Core.Path.{_∙_, sym, ap}
+use lib.Dec.{eqb}
+use lib.ListN.{length}
+use borrow.Author.Tests.{eqb-true}
+use Rattle.packed.specs.declared.Run.the-variants.{Ran}
+use Rattle.packed.specs.Packed.{Batch, batch, runClocks, runList, readAnswers}
+use Rattle.packed.specs.Calls.{clockedRun}
+use Rattle.packed.proofs.Passing.{Passed, passed, same-refusal, refusal, unstored}
+use Rattle.packed.proofs.Tops.{list-length}
+use Rattle.packed.proofs.Agree.{exact-answers}
+use borrow.Author.Needs.{needs}
+use Rattle.packed.proofs.packed_clocked.Statement.{statement}
+use Rattle.packed.proofs.packed_clocked.Tie as tie
+
+returns : tie.Need-returns
+unfolding clockedRun
+returns c =
+    let r = c .before .run-answer .result in
+    let refused = refusal r (c .match .keys2) in
+    let e = c .before .run-answer .ensures in
+    let f = e ∙ same-refusal _ _ _ 0 (length (runList _)) (rw e at refused) in
+    record {
+      run = f;
+      list = rw (← f) (unstored r refused _ _);
+      answers = rw (← f) (unstored r refused _ _);
+      exact = rw (← f) (unstored r refused _ _);
+    }
+
+-- the checks have passed
+module _ (c : tie.After-enum-told) where
+  abbrev start : tie.Start
+  start = c .before .before .before .before
+
+  abbrev given : Batch
+  given = batch (start .args .terms) (start .args .rows) (start .args .a .now) (start .args .d .now) (start .args .b .now)
+
+  all : Passed given (length (start .args .answers .now)) (eqb (length (start .args .list .now)) (runClocks (given .terms) (given .rows)))
+  all = passed _ _ _ _ _ (c .before .before .run-answer .ensures) (c .enum-told .given .1)
+
+stepped-requires : tie.Need-stepped-requires
+stepped-requires c κs = (all (c .before) .ready, eqb-true _ _ (all (c .before) .list-fits))
+
+read-answers-requires : tie.Need-read-answers-requires
+read-answers-requires c κs =
+    let at = c .before .before .before .before in
+    let ready = all (at .before .before) .ready in
+    (ready .most, ready .few, ap length (at .stepped .ensures .list) ∙ list-length (given (at .before .before)), all (at .before .before) .answers-fit)
+
+returns-2 : tie.Need-returns-2
+unfolding clockedRun
+returns-2 c =
+    let at = c .before .before .before .before .before .before in
+    let g = given (at .before .before) in
+    let done = at .stepped .ensures in
+    let e = all (at .before .before) .ran (length (runList g)) in
+    let answers = c .before .read-answers .ensures ∙ ap (readAnswers (g .terms) (g .rows)) (done .list) in
+    record {
+      run = ap Ran (done .count) ∙ sym e;
+      list = rw e (done .list);
+      answers = rw e answers;
+      exact = rw e (answers ∙ exact-answers g (done .bytes) (all (at .before .before) .ready));
+    }
+
+pub packed-clocked-spec : {M : Type 1} → statement M
+packed-clocked-spec =
+    tie.close
+    (tie.spec (λ c κs. search needs) (λ c. search needs) returns stepped-requires read-answers-requires (λ c. search needs) (λ c. search needs)
+    returns-2)

@@ -1,0 +1,95 @@
+-- The public calls as their callers see them: one answer, and one content of every lent word, for all inputs (01, "Refusal numbers":
+-- "Packed run: 10, 11, 2; a refused run writes no answer and no list word, and reports 0 clocks and place 0"). Assumes nothing.
+use Prim.Native.Nat.{ℕ, _*_}
+use mathlib.Core.Path.{_≡_, _∙_, sym}
+use mathlib.Core.Bool.{Bool, true, false, _&&_}
+use mathlib.Core.List.{List}
+use lib.Dec.{leb, eqb}
+use lib.ListN.{length}
+use lib.IntN.{ℤ}
+use Rattle.packed.specs.declared.Run.{Run}
+use Rattle.packed.specs.declared.Run.the-variants.{Ran, BadTerms, BadRows, BadLength}
+use Rattle.packed.specs.Packed.{mostTerms, mostRows, Batch, runClocks, runList, readAnswers, plainAnswers}
+
+-- 01's number of each answer, its clocks and its place
+abbrev pub numberOf : Run → ℕ
+numberOf (Ran clocks) = 0
+numberOf BadTerms = 10
+numberOf BadRows = 11
+numberOf BadLength = 2
+
+abbrev pub clocksOf : Run → ℕ
+clocksOf (Ran clocks) = clocks
+clocksOf BadTerms = 0
+clocksOf BadRows = 0
+clocksOf BadLength = 0
+
+abbrev pub placeOf : Run → ℕ
+placeOf (Ran clocks) = 0
+placeOf BadTerms = 0
+placeOf BadRows = 0
+placeOf BadLength = 0
+
+-- 10: "terms not 1 to 7"
+abbrev pub termsFit : (terms : ℕ) → Bool
+termsFit terms = leb 1 terms && leb terms mostTerms
+
+-- 11: "rows not 1 to 4,096"
+abbrev pub rowsFit : (rows : ℕ) → Bool
+rowsFit rows = leb 1 rows && leb rows mostRows
+
+-- 2: "three lent arrays of exactly rows × terms", answers "in a lent array of exactly 2 × rows"
+unfoldable pub lengthsFit : Batch → (answers : ℕ) → Bool
+lengthsFit g answers =
+    eqb (length (g .a)) (g .rows * g .terms)
+    && eqb (length (g .d)) (g .rows * g .terms)
+    && eqb (length (g .b)) (g .rows * g .terms)
+    && eqb answers (2 * g .rows)
+
+abbrev pub unless : Bool → Run → Run → Run
+unless true refused next = next
+unless false refused next = refused
+
+-- "Packed run: 10, 11, 2"; list is whether the list has its length, "which number 2 covers too"
+unfoldable pub checked : Batch → (answers : ℕ) → (list : Bool) → (clocks : ℕ) → Run
+checked g answers list clocks =
+    unless (termsFit (g .terms)) BadTerms
+    (unless (rowsFit (g .rows)) BadRows
+    (unless (lengthsFit g answers && list) BadLength
+    (Ran clocks)))
+
+-- "a refused run writes no answer and no list word": the new content where the run is accepted, else what was there
+abbrev pub leaves : {X : Type 0} → Run → (new old : X) → X
+leaves (Ran clocks) new old = new
+leaves BadTerms new old = old
+leaves BadRows new old = old
+leaves BadLength new old = old
+
+-- `packed_clocked`, of the lent answers os and the lent list ws: "it returns the clocks it stepped, one for each word"
+unfoldable pub clockedRun : Batch → (os : List ℤ) → (ws : List ℕ) → Run
+clockedRun g os ws = checked g (length os) (eqb (length ws) (runClocks (g .terms) (g .rows))) (length (runList g))
+
+pub record ClockedDone (g : Batch) (os : List ℤ) (ws : List ℕ) (r : Run) (os′ : List ℤ) (ws′ : List ℕ) : Type 0 where
+  pub run : r ≡ clockedRun g os ws
+  pub list : ws′ ≡ leaves (clockedRun g os ws) (runList g) ws
+  -- read off the list's words
+  pub answers : os′ ≡ leaves (clockedRun g os ws) (readAnswers (g .terms) (g .rows) (runList g)) os
+  -- which are the exact dot products
+  pub exact : os′ ≡ leaves (clockedRun g os ws) (plainAnswers g) os
+
+-- `packed_plain`, "without that list": no clock is stepped
+unfoldable pub plainRun : Batch → (os : List ℤ) → Run
+plainRun g os = checked g (length os) true 0
+
+pub record PlainDone (g : Batch) (os : List ℤ) (r : Run) (os′ : List ℤ) : Type 0 where
+  pub run : r ≡ plainRun g os
+  pub answers : os′ ≡ leaves (plainRun g os) (plainAnswers g) os
+
+-- no second outcome fits
+pub one-clocked : {g : Batch} {os : List ℤ} {ws : List ℕ} {r₁ r₂ : Run} {os₁ os₂ : List ℤ} {ws₁ ws₂ : List ℕ}
+    → ClockedDone g os ws r₁ os₁ ws₁ → ClockedDone g os ws r₂ os₂ ws₂ → (r₁ ≡ r₂) × (os₁ ≡ os₂) × (ws₁ ≡ ws₂)
+one-clocked x y = (x .run ∙ sym (y .run), x .answers ∙ sym (y .answers), x .list ∙ sym (y .list))
+
+pub one-plain : {g : Batch} {os : List ℤ} {r₁ r₂ : Run} {os₁ os₂ : List ℤ}
+    → PlainDone g os r₁ os₁ → PlainDone g os r₂ os₂ → (r₁ ≡ r₂) × (os₁ ≡ os₂)
+one-plain x y = (x .run ∙ sym (y .run), x .answers ∙ sym (y .answers))

@@ -1,0 +1,73 @@
+// The refusals of both runs, in their order. Nothing is stored.
+ghost use mathlib.Core.Path.{_≡_};
+ghost use Prim.Native.Nat.{_≤_};
+ghost use Rattle.packed.specs.Packed.{mostTerms, mostRows, batch};
+ghost use Rattle.packed.specs.Calls.{termsFit, rowsFit, lengthsFit, checked};
+ghost use Rattle.packed.specs.Parts.{listFits};
+use crate::Run;
+
+pub const MOST_TERMS: usize = 7;
+
+pub const MOST_ROWS: usize = 4096;
+
+// The list that a run is lent, by its length; the plain run has none.
+pub enum Lent {
+    NoList,
+    Words(usize),
+}
+
+fn terms_fit(terms: usize) -> bool
+    ensures { λ r. ⌜ r ≡ termsFit terms ⌝ }
+{
+    (1 <= terms) & (terms <= MOST_TERMS)
+}
+
+fn rows_fit(rows: usize) -> bool
+    ensures { λ r. ⌜ r ≡ rowsFit rows ⌝ }
+{
+    (1 <= rows) & (rows <= MOST_ROWS)
+}
+
+// Terms and rows are within their bounds, so no product here wraps.
+fn lengths_fit(terms: usize, rows: usize, a: &[i8], d: &[i8], b: &[i8], answers: usize) -> bool
+    requires { ⌜ (terms ≤ mostTerms) × (rows ≤ mostRows) ⌝ }
+    ensures { λ r. ⌜ r ≡ lengthsFit (batch terms rows (now (a .entry)) (now (d .entry)) (now (b .entry))) answers ⌝ }
+{
+    let area = rows * terms;
+    (a.len() == area) & (d.len() == area) & (b.len() == area) & (answers == 2 * rows)
+}
+
+fn list_fits(terms: usize, rows: usize, lent: Lent) -> bool
+    requires { ⌜ (terms ≤ mostTerms) × (rows ≤ mostRows) ⌝ }
+    ensures { λ r. ⌜ r ≡ listFits terms rows lent ⌝ }
+{
+    match lent {
+        Lent::NoList => true,
+        Lent::Words(words) => words == rows + terms + 3,
+    }
+}
+
+// `Ran(0)`: nothing is refused, and no clock is stepped yet.
+pub fn run_answer(
+    terms: usize,
+    rows: usize,
+    a: &[i8],
+    d: &[i8],
+    b: &[i8],
+    answers: usize,
+    lent: Lent,
+) -> Run
+    ensures { λ r. ⌜ r ≡ checked (batch terms rows (now (a .entry)) (now (d .entry)) (now (b .entry))) answers (listFits terms rows lent) 0 ⌝ }
+{
+    if !terms_fit(terms) {
+        return Run::BadTerms;
+    }
+    if !rows_fit(rows) {
+        return Run::BadRows;
+    }
+    let lengths = lengths_fit(terms, rows, a, d, b, answers);
+    if !(lengths & list_fits(terms, rows, lent)) {
+        return Run::BadLength;
+    }
+    Run::Ran(0)
+}
