@@ -1,0 +1,379 @@
+/*
+ * The bench: every call of libdsp48e2.a, accepted and refused, on lent arrays that stand between guard words.
+ *
+ *   bench [SEED [CALLS]]
+ *
+ * The checks by hand come from the scope; then CALLS random calls are answered by the archive and by the plain model,
+ * which was written apart from it. Prints what it did; fails on the first difference.
+ */
+#include "dsp48e2.h"
+#include "column.h"
+
+#include <inttypes.h>
+#include <stdio.h>
+#include <stdlib.h>
+#include <string.h>
+
+#define MOST 25
+#define GUARD UINT64_C(0x5afe5afe5afe5afe)
+
+static unsigned long checks;
+
+static void expect(int holds, const char *what)
+{
+    checks++;
+    if (!holds) {
+        printf("FAILED: %s\n", what);
+        exit(1);
+    }
+}
+
+static void expect_refusal(uint64_t word, unsigned number, unsigned place, const char *what)
+{
+    expect(DSP_IS_REFUSED(word) && DSP_NUMBER(word) == number && DSP_PLACE(word) == place, what);
+}
+
+/* ---- lent words between guards */
+
+struct lent {
+    uint64_t words[2 + MOST * DSP_ATTRIBUTE_WORDS];
+    uint64_t before[2 + MOST * DSP_ATTRIBUTE_WORDS];
+    size_t length;
+};
+
+static struct lent attributes, registers, ports, outputs;
+
+static uint64_t *lend(struct lent *lent) { return lent->words + 1; }
+
+static void fill(struct lent *lent, size_t length, uint64_t value)
+{
+    lent->length = length;
+    lent->words[0] = GUARD;
+    for (size_t i = 0; i < length; i++)
+        lent->words[1 + i] = value;
+    lent->words[1 + length] = GUARD;
+}
+
+static void keep(struct lent *lent) { memcpy(lent->before, lent->words, sizeof lent->words); }
+
+static int kept(const struct lent *lent)
+{
+    return memcmp(lent->before, lent->words, (lent->length + 2) * sizeof lent->words[0]) == 0;
+}
+
+static int guarded(const struct lent *lent)
+{
+    return lent->words[0] == GUARD && lent->words[1 + lent->length] == GUARD;
+}
+
+static void cleared_column(size_t count)
+{
+    fill(&attributes, count * DSP_ATTRIBUTE_WORDS, 0);
+    fill(&registers, count * DSP_REGISTER_WORDS, 0);
+    fill(&ports, count * DSP_PORT_WORDS, 0);
+    fill(&outputs, count * DSP_OUTPUT_WORDS, 77);
+}
+
+static uint64_t clock_of(uint64_t count)
+{
+    keep(&attributes);
+    keep(&registers);
+    keep(&ports);
+    keep(&outputs);
+    uint64_t word = dsp_clock(count, lend(&attributes), attributes.length, lend(&registers), registers.length,
+                              lend(&ports), ports.length, lend(&outputs), outputs.length);
+    expect(kept(&attributes) && kept(&ports), "a clock writes no attribute and no port");
+    expect(guarded(&registers) && guarded(&outputs), "a clock writes no word beside those lent");
+    if (DSP_IS_REFUSED(word))
+        expect(kept(&registers) && kept(&outputs), "a refused clock writes nothing");
+    return word;
+}
+
+/* ---- the checks by hand */
+
+static void heights(void)
+{
+    for (unsigned count = 1; count <= DSP_MOST_SLICES; count++) {
+        cleared_column(count);
+        expect(clock_of(count) == 0, "1 to 24 cleared slices are accepted");
+        for (size_t i = 0; i < outputs.length; i++)
+            expect(lend(&outputs)[i] == (i % DSP_OUTPUT_WORDS == DSP_OUTPUT_PATTERNDETECT), "a cleared slice shows PD alone");
+    }
+    cleared_column(0);
+    expect_refusal(clock_of(0), DSP_BAD_COUNT, 0, "0 slices");
+    cleared_column(25);
+    expect_refusal(clock_of(25), DSP_BAD_COUNT, 0, "25 slices");
+    cleared_column(1);
+    expect_refusal(clock_of(UINT64_MAX), DSP_BAD_COUNT, 0, "2^64 - 1 slices");
+    expect_refusal(clock_of(UINT64_C(1) << 32 | 1), DSP_BAD_COUNT, 0, "2^32 + 1 slices");
+    expect_refusal(dsp_clock(1, NULL, 0, NULL, 0, NULL, 0, NULL, 0), DSP_BAD_LENGTH, 0, "no words at all");
+    expect_refusal(dsp_clear(1, NULL, 0), DSP_BAD_LENGTH, 0, "no registers at all");
+}
+
+static void lengths(void)
+{
+    struct lent *lents[] = { &attributes, &registers, &ports, &outputs };
+    for (unsigned i = 0; i < 4; i++)
+        for (int off = -1; off <= 1; off += 2) {
+            cleared_column(2);
+            fill(lents[i], lents[i]->length + (size_t)off, 0);
+            expect_refusal(clock_of(2), DSP_BAD_LENGTH, 0, "a length one off");
+            fill(lents[i], 0, 0);
+            expect_refusal(clock_of(2), DSP_BAD_LENGTH, 0, "a length of 0");
+        }
+}
+
+/* Every word of every slice at its limit and one past it. */
+static void limits(struct lent *lent, const unsigned *widths, size_t words, unsigned number)
+{
+    for (unsigned k = 0; k < 3; k++)
+        for (size_t i = 0; i < words; i++) {
+            cleared_column(3);
+            lend(lent)[words * k + i] = UINT64_C(1) << widths[i];
+            expect_refusal(clock_of(3), number, k, "a word one past its width");
+            lend(lent)[words * k + i] = UINT64_MAX;
+            expect_refusal(clock_of(3), number, k, "a word of 64 ones");
+        }
+}
+
+static void forbidden(void)
+{
+    static const struct { unsigned word; uint64_t value; unsigned number; } settings[] = {
+        { DSP_PORT_INMODE, 4, DSP_BAD_INMODE }, { DSP_PORT_OPMODE, 64, DSP_BAD_OPMODE },
+        { DSP_PORT_ALUMODE, 8, DSP_BAD_ALUMODE }, { DSP_PORT_CARRYINSEL, 2, DSP_BAD_CARRYINSEL },
+    };
+    for (unsigned k = 0; k < DSP_MOST_SLICES; k++)
+        for (unsigned i = 0; i < sizeof settings / sizeof settings[0]; i++) {
+            cleared_column(DSP_MOST_SLICES);
+            DSP_WORD(lend(&ports), DSP_PORT_WORDS, k, settings[i].word) = settings[i].value;
+            DSP_WORD(lend(&ports), DSP_PORT_WORDS, DSP_MOST_SLICES - 1, settings[i].word) = settings[i].value;
+            expect_refusal(clock_of(DSP_MOST_SLICES), settings[i].number, k, "a forbidden setting, at its lowest slice");
+        }
+}
+
+static void worked_example(void)
+{
+    cleared_column(1);
+    lend(&ports)[DSP_PORT_B] = 5;
+    lend(&ports)[DSP_PORT_C] = 7;
+    lend(&ports)[DSP_PORT_OPMODE] = 15;
+    expect(clock_of(1) == 0 && lend(&outputs)[DSP_OUTPUT_P] == 12, "B 5 and C 7 with OPMODE 15 show 12");
+}
+
+static void neighbours(void)
+{
+    cleared_column(2);
+    for (unsigned k = 0; k < 2; k++) {
+        DSP_WORD(lend(&attributes), DSP_ATTRIBUTE_WORDS, k, DSP_ATTRIBUTE_PREG) = 1;
+        DSP_WORD(lend(&registers), DSP_REGISTER_WORDS, k, DSP_REGISTER_P) = k ? 2 : 40;
+        DSP_WORD(lend(&ports), DSP_PORT_WORDS, k, DSP_PORT_OPMODE) = k ? 18 : 12;
+        DSP_WORD(lend(&ports), DSP_PORT_WORDS, k, DSP_PORT_CE) = DSP_CE_P;
+    }
+    lend(&ports)[DSP_PORT_C] = 100;
+    expect(clock_of(2) == 0, "two slices");
+    expect(DSP_WORD(lend(&registers), DSP_REGISTER_WORDS, 0, DSP_REGISTER_P) == 100, "the lower slice loads C");
+    expect(DSP_WORD(lend(&registers), DSP_REGISTER_WORDS, 1, DSP_REGISTER_P) == 42, "the upper slice adds the P of before the edge");
+}
+
+static void clearing(void)
+{
+    fill(&registers, 3 * DSP_REGISTER_WORDS, UINT64_MAX);
+    keep(&registers);
+    expect_refusal(dsp_clear(0, lend(&registers), registers.length), DSP_BAD_COUNT, 0, "clearing 0 slices");
+    expect_refusal(dsp_clear(25, lend(&registers), registers.length), DSP_BAD_COUNT, 0, "clearing 25 slices");
+    expect_refusal(dsp_clear(2, lend(&registers), registers.length), DSP_BAD_LENGTH, 0, "clearing 2 of 3 slices");
+    expect(kept(&registers), "a refused clear writes nothing");
+    expect(dsp_clear(3, lend(&registers), registers.length) == 0 && guarded(&registers), "clearing 3 slices");
+    for (size_t i = 0; i < registers.length; i++)
+        expect(lend(&registers)[i] == 0, "a cleared register is 0");
+}
+
+static void adder(void)
+{
+    const uint64_t ones = DSP_REFUSED - 1;
+    expect(dsp_adder(0, 5, 7, 0, 0, 0) == 12, "mode 0, X 5, Y 7");
+    expect(dsp_adder(0, 1, 0, 0, 0, 3) == ones, "mode 3, Z 0, X 1");
+    expect(dsp_adder(0, 0, 0, 5, 1, 3) == 4, "mode 3, Z 5, CIN 1");
+    expect(dsp_adder(0, 0, 0, 0, 0, 1) == ones, "mode 1, all 0");
+    expect(dsp_adder(0, 0, 0, 0, 1, 1) == 0, "mode 1, CIN 1 only");
+    expect(dsp_adder(ones, ones, ones, ones, 1, 0) == 281474976710653u, "mode 0, four operands all ones, CIN 1");
+    expect(dsp_adder(0, 12, 0, 10, 0, 12) == 8 && dsp_adder(0, 12, ones, 10, 0, 12) == 14, "mode 12, X 12, Z 10");
+    expect(dsp_adder(0, DSP_REFUSED, 0, 0, 0, 8) == DSP_REFUSED + 5, "a word over its width, before the mode");
+    expect(dsp_adder(0, 0, 0, 0, 2, 0) == DSP_REFUSED + 5 && dsp_adder(0, 0, 0, 0, 0, 16) == DSP_REFUSED + 5, "CIN 2, ALUMODE 16");
+    for (uint64_t mode = 8; mode < 12; mode++)
+        expect(dsp_adder(0, 0, 0, 0, 0, mode) == DSP_REFUSED + 8, "modes 8 to 11");
+    expect(dsp_adder(1, 0, 0, 0, 0, 4) == DSP_REFUSED + 8 && dsp_adder(0, 0, 1, 0, 0, 4) == DSP_REFUSED + 8, "a logic mode with W 1, or Y 1");
+}
+
+/* ---- the packed runs by hand */
+
+static int8_t high[DSP_MOST_ROWS * DSP_MOST_TERMS], low[DSP_MOST_ROWS * DSP_MOST_TERMS], right[DSP_MOST_ROWS * DSP_MOST_TERMS];
+static int32_t answers[2 * DSP_MOST_ROWS + 1], other_answers[2 * DSP_MOST_ROWS + 1];
+static uint64_t list[DSP_PACKED_CLOCKS(DSP_MOST_TERMS, DSP_MOST_ROWS) + 1], other_list[DSP_PACKED_CLOCKS(DSP_MOST_TERMS, DSP_MOST_ROWS) + 1];
+
+static uint64_t clocked(uint64_t terms, uint64_t rows, size_t n, size_t sums, size_t clocks)
+{
+    answers[sums] = 1234567;
+    list[clocks] = GUARD;
+    uint64_t word = dsp_packed_clocked(terms, rows, high, n, low, n, right, n, answers, sums, list, clocks);
+    expect(answers[sums] == 1234567 && list[clocks] == GUARD, "a run writes no word beside those lent");
+    return word;
+}
+
+static void packed_by_hand(void)
+{
+    high[0] = 1, low[0] = -1, right[0] = 1;
+    expect(clocked(1, 1, 1, 2, 5) == 5 && list[4] == 262143 && answers[0] == 1 && answers[1] == -1, "the row (1, -1, 1)");
+    memset(high, -128, 7);
+    memset(low, -128, 7);
+    memset(right, -128, 7);
+    expect(clocked(7, 1, 7, 2, 11) == 11 && answers[0] == 114688 && answers[1] == 114688, "seven terms all -128");
+    answers[0] = 5;
+    list[0] = 6;
+    expect_refusal(clocked(8, 1, 8, 2, 12), DSP_BAD_TERMS, 0, "8 terms");
+    expect_refusal(clocked(0, 0, 0, 2, 3), DSP_BAD_TERMS, 0, "0 terms, before 0 rows");
+    expect_refusal(clocked(7, 0, 0, 2, 10), DSP_BAD_ROWS, 0, "0 rows");
+    expect_refusal(clocked(7, DSP_MOST_ROWS + 1, 7, 2, 11), DSP_BAD_ROWS, 0, "4,097 rows");
+    expect_refusal(clocked(UINT64_MAX, UINT64_MAX, 7, 2, 11), DSP_BAD_TERMS, 0, "2^64 - 1 terms");
+    expect_refusal(clocked(1, UINT64_MAX, 7, 2, 11), DSP_BAD_ROWS, 0, "2^64 - 1 rows");
+    expect_refusal(clocked(7, 1, 6, 2, 11), DSP_BAD_LENGTH, 0, "a row one number short");
+    expect_refusal(clocked(7, 1, 7, 3, 11), DSP_BAD_LENGTH, 0, "an answer too many");
+    expect_refusal(clocked(7, 1, 7, 2, 10), DSP_BAD_LENGTH, 0, "a list word too few");
+    expect_refusal(dsp_packed_plain(1, 1, NULL, 0, NULL, 0, NULL, 0, NULL, 0), DSP_BAD_LENGTH, 0, "no numbers at all");
+    expect(answers[0] == 5 && list[0] == 6, "a refused run writes nothing");
+}
+
+/* ---- random calls, answered twice */
+
+static uint64_t state;
+
+static uint64_t draw(void)
+{
+    state += UINT64_C(0x9e3779b97f4a7c15);
+    uint64_t z = state;
+    z = (z ^ (z >> 30)) * UINT64_C(0xbf58476d1ce4e5b9);
+    z = (z ^ (z >> 27)) * UINT64_C(0x94d049bb133111eb);
+    return z ^ (z >> 31);
+}
+
+/* A word of some width: a boundary, or any; one in a thousand is past the width. */
+static uint64_t draw_word(unsigned width)
+{
+    uint64_t top = UINT64_C(1) << (width - 1), all = top * 2 - 1;
+    switch (draw() % 8) {
+    case 0: return 0;
+    case 1: return 1;
+    case 2: return all;
+    case 3: return top;
+    case 4: return top - 1;
+    default: return draw() % 1000 ? draw() & all : draw();
+    }
+}
+
+static void draw_record(uint64_t *words, const unsigned *widths, size_t count)
+{
+    for (size_t i = 0; i < count; i++)
+        words[i] = draw_word(widths[i]);
+}
+
+static const unsigned attribute_widths[] = DSP_ATTRIBUTE_WIDTHS;
+static const unsigned register_widths[] = DSP_REGISTER_WIDTHS;
+static const unsigned port_widths[] = DSP_PORT_WIDTHS;
+
+/* Mostly legal: the lists are kept, and the control words are those of a sum of A:B, C and PCIN or a product. */
+static void draw_slice(uint64_t *a, uint64_t *r, uint64_t *p)
+{
+    static const unsigned pairs[][2] = { { 0, 0 }, { 1, 1 }, { 2, 1 }, { 2, 2 } };
+    static const uint64_t opmodes[] = { 0, 3, 5, 12, 15, 16, 21, 31, 48, 51, 53, 80, 256, 287, 399, 405 };
+    draw_record(a, attribute_widths, DSP_ATTRIBUTE_WORDS);
+    draw_record(r, register_widths, DSP_REGISTER_WORDS);
+    draw_record(p, port_widths, DSP_PORT_WORDS);
+    if (draw() % 16 == 0)
+        return;
+    unsigned i = (unsigned)(draw() % 4), j = (unsigned)(draw() % 4);
+    a[DSP_ATTRIBUTE_AREG] = pairs[i][0];
+    a[DSP_ATTRIBUTE_ACASCREG] = pairs[i][1];
+    a[DSP_ATTRIBUTE_BREG] = pairs[j][0];
+    a[DSP_ATTRIBUTE_BCASCREG] = pairs[j][1];
+    a[DSP_ATTRIBUTE_USE_MULT] = 1;
+    p[DSP_PORT_OPMODE] = opmodes[draw() % 16];
+    r[DSP_REGISTER_OPMODE] = opmodes[draw() % 16];
+    p[DSP_PORT_ALUMODE] = draw() % 4;
+    r[DSP_REGISTER_ALUMODE] = draw() % 4;
+    p[DSP_PORT_INMODE] = (draw() & 14) * a[DSP_ATTRIBUTE_AMULTSEL];
+    r[DSP_REGISTER_INMODE] = (draw() & 14) * a[DSP_ATTRIBUTE_AMULTSEL];
+    p[DSP_PORT_CARRYINSEL] = draw() % 2;
+    r[DSP_REGISTER_CARRYINSEL] = draw() % 2 * 3;
+}
+
+static void random_clock(unsigned long *accepted)
+{
+    static uint64_t other_registers[MOST * DSP_REGISTER_WORDS], other_outputs[MOST * DSP_OUTPUT_WORDS];
+    size_t count = 1 + draw() % (draw() % 16 ? 3 : DSP_MOST_SLICES);
+    cleared_column(count);
+    for (size_t k = 0; k < count; k++)
+        draw_slice(lend(&attributes) + DSP_ATTRIBUTE_WORDS * k, lend(&registers) + DSP_REGISTER_WORDS * k,
+                   lend(&ports) + DSP_PORT_WORDS * k);
+    memcpy(other_registers, lend(&registers), registers.length * sizeof other_registers[0]);
+    memcpy(other_outputs, lend(&outputs), outputs.length * sizeof other_outputs[0]);
+    uint64_t other = column_clock(count, lend(&attributes), attributes.length, other_registers, registers.length,
+                                  lend(&ports), ports.length, other_outputs, outputs.length);
+    uint64_t word = clock_of(count);
+    *accepted += word == 0;
+    expect(word == other, "the archive and the model return the same word");
+    expect(memcmp(other_registers, lend(&registers), registers.length * sizeof other_registers[0]) == 0, "the same registers");
+    expect(memcmp(other_outputs, lend(&outputs), outputs.length * sizeof other_outputs[0]) == 0, "the same outputs");
+}
+
+static void random_adder(void)
+{
+    uint64_t ones = DSP_REFUSED - 1, y = draw() % 4 ? (draw() % 2 ? ones : 0) : draw_word(48);
+    uint64_t w = draw() % 2 ? 0 : draw_word(48), x = draw_word(48), z = draw_word(48), cin = draw_word(1), mode = draw_word(4);
+    expect(dsp_adder(w, x, y, z, cin, mode) == column_adder(w, x, y, z, cin, mode), "the archive and the model add alike");
+}
+
+static void random_packed(uint64_t terms, uint64_t rows)
+{
+    size_t n = (size_t)(rows * terms), sums = (size_t)(2 * rows), clocks = (size_t)DSP_PACKED_CLOCKS(terms, rows);
+    for (size_t i = 0; i < n; i++) {
+        high[i] = (int8_t)(uint8_t)draw_word(8);
+        low[i] = (int8_t)(uint8_t)draw_word(8);
+        right[i] = (int8_t)(uint8_t)draw_word(8);
+    }
+    expect(clocked(terms, rows, n, sums, clocks) == clocks, "the clocks are rows + terms + 3");
+    expect(column_packed(terms, rows, high, n, low, n, right, n, other_answers, sums, other_list, clocks) == clocks, "the model's clocks");
+    expect(memcmp(answers, other_answers, sums * sizeof answers[0]) == 0, "the same answers");
+    expect(memcmp(list, other_list, clocks * sizeof list[0]) == 0, "the same list");
+    expect(dsp_packed_plain(terms, rows, high, n, low, n, right, n, other_answers, sums) == 0, "the plain run");
+    expect(memcmp(answers, other_answers, sums * sizeof answers[0]) == 0, "the plain run's answers");
+}
+
+int main(int argc, char **argv)
+{
+    unsigned long calls = argc > 2 ? strtoul(argv[2], NULL, 10) : 100000, accepted = 0;
+    state = argc > 1 ? strtoul(argv[1], NULL, 10) : 1;
+    heights();
+    lengths();
+    limits(&attributes, attribute_widths, DSP_ATTRIBUTE_WORDS, DSP_BAD_ATTRIBUTE);
+    limits(&registers, register_widths, DSP_REGISTER_WORDS, DSP_BAD_REGISTER);
+    limits(&ports, port_widths, DSP_PORT_WORDS, DSP_BAD_PORT);
+    forbidden();
+    worked_example();
+    neighbours();
+    clearing();
+    adder();
+    packed_by_hand();
+    printf("by hand: %lu checks\n", checks);
+    for (unsigned long i = 0; i < calls; i++) {
+        random_clock(&accepted);
+        for (unsigned j = 0; j < 10; j++)
+            random_adder();
+    }
+    printf("random: %lu clocks, of which %lu accepted, and %lu additions, 0 differences\n", calls, accepted, 10 * calls);
+    expect(accepted * 10 > calls, "one random clock in ten is accepted");
+    for (uint64_t terms = 1; terms <= DSP_MOST_TERMS; terms++)
+        for (uint64_t rows = 1; rows <= DSP_MOST_ROWS; rows *= 8)
+            random_packed(terms, rows);
+    printf("packed: 1 to 7 terms, 1 to 4,096 rows, 0 differences\n");
+    return 0;
+}

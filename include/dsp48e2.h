@@ -1,0 +1,210 @@
+/*
+ * A column of 1 to 24 DSP48E2 slices, clock by clock: the calls of libdsp48e2.a.
+ *
+ * All lent words are uint64_t and hold unsigned bit patterns, slice 0 (the bottom) first; a slice's words stand in the
+ * order of the enums below. Every call takes whatever it is given: any number, any length, a null pointer with length 0.
+ * What is malformed or forbidden is refused, and a refused call changes no lent word.
+ *
+ * A refusal is DSP_REFUSED + 256 * place + number in the returned word, and nothing else is that large; the place is the
+ * lowest slice that fails the check of that number.
+ */
+#ifndef DSP48E2_H
+#define DSP48E2_H
+
+#include <stddef.h>
+#include <stdint.h>
+
+#ifdef __cplusplus
+extern "C" {
+#endif
+
+/* The refusal rule, and what takes a refusal apart. */
+#define DSP_REFUSED (UINT64_C(1) << 48)
+#define DSP_IS_REFUSED(word) ((word) >= DSP_REFUSED)
+#define DSP_NUMBER(word) ((unsigned)((word) & 255u))
+#define DSP_PLACE(word) ((unsigned)(((word) - DSP_REFUSED) >> 8))
+
+/* The refusal numbers. */
+enum dsp_number {
+    DSP_ACCEPTED = 0,
+    DSP_BAD_COUNT = 1,      /* slice count is not 1 to 24 */
+    DSP_BAD_LENGTH = 2,     /* a lent length differs from the required one */
+    DSP_BAD_ATTRIBUTE = 3,  /* an attribute breaks its list */
+    DSP_BAD_REGISTER = 4,   /* a register word exceeds its width */
+    DSP_BAD_PORT = 5,       /* a port word exceeds its width */
+    DSP_BAD_INMODE = 6,     /* INMODE in effect is forbidden */
+    DSP_BAD_OPMODE = 7,     /* OPMODE in effect is forbidden */
+    DSP_BAD_ALUMODE = 8,    /* ALUMODE in effect is forbidden */
+    DSP_BAD_CARRYINSEL = 9, /* CARRYINSEL in effect is forbidden */
+    DSP_BAD_TERMS = 10,     /* packed run: terms not 1 to 7 */
+    DSP_BAD_ROWS = 11       /* packed run: rows not 1 to 4,096 */
+};
+
+#define DSP_MOST_SLICES 24
+#define DSP_MOST_TERMS 7
+#define DSP_MOST_ROWS 4096
+
+/* A slice's attributes: its settings. */
+enum dsp_attribute {
+    DSP_ATTRIBUTE_AREG = 0,
+    DSP_ATTRIBUTE_BREG = 1,
+    DSP_ATTRIBUTE_ACASCREG = 2,
+    DSP_ATTRIBUTE_BCASCREG = 3,
+    DSP_ATTRIBUTE_A_INPUT = 4,
+    DSP_ATTRIBUTE_B_INPUT = 5,
+    DSP_ATTRIBUTE_CREG = 6,
+    DSP_ATTRIBUTE_DREG = 7,
+    DSP_ATTRIBUTE_ADREG = 8,
+    DSP_ATTRIBUTE_MREG = 9,
+    DSP_ATTRIBUTE_PREG = 10,
+    DSP_ATTRIBUTE_OPMODEREG = 11,
+    DSP_ATTRIBUTE_ALUMODEREG = 12,
+    DSP_ATTRIBUTE_INMODEREG = 13,
+    DSP_ATTRIBUTE_CARRYINREG = 14,
+    DSP_ATTRIBUTE_CARRYINSELREG = 15,
+    DSP_ATTRIBUTE_USE_MULT = 16,
+    DSP_ATTRIBUTE_AMULTSEL = 17,
+    DSP_ATTRIBUTE_RND = 18,
+    DSP_ATTRIBUTE_PATTERN = 19,
+    DSP_ATTRIBUTE_MASK = 20,
+    DSP_ATTRIBUTE_WORDS = 21
+};
+
+/* A slice's registers: what it holds between edges. */
+enum dsp_register {
+    DSP_REGISTER_A1 = 0,
+    DSP_REGISTER_A2 = 1,
+    DSP_REGISTER_B1 = 2,
+    DSP_REGISTER_B2 = 3,
+    DSP_REGISTER_C = 4,
+    DSP_REGISTER_D = 5,
+    DSP_REGISTER_AD = 6,
+    DSP_REGISTER_M = 7,
+    DSP_REGISTER_P = 8,
+    DSP_REGISTER_OPMODE = 9,
+    DSP_REGISTER_ALUMODE = 10,
+    DSP_REGISTER_INMODE = 11,
+    DSP_REGISTER_CARRYINSEL = 12,
+    DSP_REGISTER_CARRYIN = 13,
+    DSP_REGISTER_PD = 14,
+    DSP_REGISTER_PBD = 15,
+    DSP_REGISTER_PDPAST = 16,
+    DSP_REGISTER_PBDPAST = 17,
+    DSP_REGISTER_WORDS = 18
+};
+
+/* A slice's ports: what it is given in a clock. */
+enum dsp_port {
+    DSP_PORT_A = 0,
+    DSP_PORT_B = 1,
+    DSP_PORT_C = 2,
+    DSP_PORT_D = 3,
+    DSP_PORT_OPMODE = 4,
+    DSP_PORT_ALUMODE = 5,
+    DSP_PORT_INMODE = 6,
+    DSP_PORT_CARRYINSEL = 7,
+    DSP_PORT_CARRYIN = 8,
+    DSP_PORT_CE = 9,
+    DSP_PORT_RST = 10,
+    DSP_PORT_WORDS = 11
+};
+
+/* A slice's outputs: what it shows in a clock. */
+enum dsp_output {
+    DSP_OUTPUT_P = 0,
+    DSP_OUTPUT_PATTERNDETECT = 1,
+    DSP_OUTPUT_PATTERNBDETECT = 2,
+    DSP_OUTPUT_OVERFLOW = 3,
+    DSP_OUTPUT_UNDERFLOW = 4,
+    DSP_OUTPUT_WORDS = 5
+};
+
+/* The width of every word, in bits and in the words' order. The attributes' list is narrower: AREG and BREG are 0 to 2. */
+#define DSP_ATTRIBUTE_WIDTHS { 2, 2, 2, 2, 1, 1, 1, 1, 1, 1, 1, 1, 1, 1, 1, 1, 1, 1, 48, 48, 48 }
+#define DSP_REGISTER_WIDTHS { 30, 30, 18, 18, 48, 27, 27, 45, 48, 9, 4, 5, 3, 1, 1, 1, 1, 1 }
+#define DSP_PORT_WIDTHS { 30, 18, 48, 27, 9, 4, 5, 3, 1, 13, 10 }
+
+/* The bits of the port words CE and RST. */
+enum dsp_ce {
+    DSP_CE_A1 = 1 << 0,
+    DSP_CE_A2 = 1 << 1,
+    DSP_CE_B1 = 1 << 2,
+    DSP_CE_B2 = 1 << 3,
+    DSP_CE_C = 1 << 4,
+    DSP_CE_D = 1 << 5,
+    DSP_CE_AD = 1 << 6,
+    DSP_CE_M = 1 << 7,
+    DSP_CE_P = 1 << 8,
+    DSP_CE_CTRL = 1 << 9,
+    DSP_CE_ALUMODE = 1 << 10,
+    DSP_CE_INMODE = 1 << 11,
+    DSP_CE_CARRYIN = 1 << 12,
+    DSP_CE_ALL = (1 << 13) - 1
+};
+
+enum dsp_rst {
+    DSP_RST_A = 1 << 0,
+    DSP_RST_B = 1 << 1,
+    DSP_RST_C = 1 << 2,
+    DSP_RST_D = 1 << 3,
+    DSP_RST_M = 1 << 4,
+    DSP_RST_P = 1 << 5,
+    DSP_RST_CTRL = 1 << 6,
+    DSP_RST_ALUMODE = 1 << 7,
+    DSP_RST_INMODE = 1 << 8,
+    DSP_RST_ALLCARRYIN = 1 << 9,
+    DSP_RST_ALL = (1 << 10) - 1
+};
+
+/* Slice k's word i of some lent words: DSP_WORD(ports, DSP_PORT_WORDS, k, DSP_PORT_OPMODE). */
+#define DSP_WORD(words, count, k, i) ((words)[(size_t)(count) * (size_t)(k) + (size_t)(i)])
+
+/*
+ * The adder and logic unit on plain numbers: W, X, Y, Z of 48 bits, CIN of 1 and ALUMODE of 4. Returns the result, which
+ * is below 2^48; or DSP_REFUSED + 5 when a number is over its width; or else DSP_REFUSED + 8 for modes 8 to 11, or for a
+ * logic mode with W not 0 or Y neither 0 nor all ones.
+ */
+uint64_t dsp_adder(uint64_t w, uint64_t x, uint64_t y, uint64_t z, uint64_t cin, uint64_t alumode);
+
+/*
+ * One clock. Lent: DSP_ATTRIBUTE_WORDS, DSP_REGISTER_WORDS, DSP_PORT_WORDS and DSP_OUTPUT_WORDS words for each of count
+ * slices, each with its length in words. Returns 0, and leaves the outputs of this clock in outputs and the registers
+ * after the edge in registers; or a refusal, numbers 1 to 9 in their order.
+ */
+uint64_t dsp_clock(uint64_t count,
+                   const uint64_t *attributes, size_t attributes_length,
+                   uint64_t *registers, size_t registers_length,
+                   const uint64_t *ports, size_t ports_length,
+                   uint64_t *outputs, size_t outputs_length);
+
+/* Sets every register of count slices to 0. Returns 0, or a refusal: number 1, then 2. */
+uint64_t dsp_clear(uint64_t count, uint64_t *registers, size_t registers_length);
+
+/* The clocks of an accepted packed run, which is also the length of its list. */
+#define DSP_PACKED_CLOCKS(terms, rows) ((rows) + (terms) + 3)
+
+/*
+ * The packed run, clock by clock. Lent: three arrays of rows * terms signed 8-bit numbers, row by row; 2 * rows answers,
+ * the high sum (of a * b) then the low sum (of d * b) of each row; and a list of DSP_PACKED_CLOCKS(terms, rows) words.
+ * Returns the clocks it stepped, and leaves the top P of each clock in list and every row's exact sums in answers; or a
+ * refusal at place 0, numbers 10, 11 and 2 in that order.
+ */
+uint64_t dsp_packed_clocked(uint64_t terms, uint64_t rows,
+                            const int8_t *a, size_t a_length,
+                            const int8_t *d, size_t d_length,
+                            const int8_t *b, size_t b_length,
+                            int32_t *answers, size_t answers_length,
+                            uint64_t *list, size_t list_length);
+
+/* The same sums worked out directly, without the list. Returns 0, or a refusal as above. */
+uint64_t dsp_packed_plain(uint64_t terms, uint64_t rows,
+                          const int8_t *a, size_t a_length,
+                          const int8_t *d, size_t d_length,
+                          const int8_t *b, size_t b_length,
+                          int32_t *answers, size_t answers_length);
+
+#ifdef __cplusplus
+}
+#endif
+
+#endif
