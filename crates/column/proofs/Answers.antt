@@ -19,7 +19,7 @@ use Rattle.column.specs.declared.Answer.{Answer}
 use Rattle.column.specs.declared.Answer.the-variants.{Accepted, BadCount, BadLength, Broken}
 use Rattle.column.specs.declared.refusals.Found.{Found}
 use Rattle.column.specs.declared.refusals.Found.the-variants.{Nothing, At}
-use Rattle.column.specs.Refusals.{checkNumber, numberOf, placeOf, fails, lowest, refuse, unless, settings, countFits, lengthsFit, clockAnswer, clearAnswer}
+use Rattle.column.specs.Refusals.{checkNumber, numberOf, placeOf, fails, lowest, refuse, unless, broken, settings, countFits, lengthsFit, clockAnswer, clearAnswer, attributesAnswer}
 use Rattle.column.specs.Calls.{leaves}
 use Rattle.column.specs.Parts.{Lengths}
 use Rattle.column.proofs.Search.{few, lowest-says}
@@ -107,6 +107,37 @@ cleared-length count rs p =
     let p1 = unless-passes (countFits count) BadCount _ (lit< tt) p in
     eqb-true _ _ (unless-passes (eqb (length rs) (registerWords * count)) BadLength Accepted (lit< tt) (p1 .1) .0)
 
+-- attributes that pass by themselves: they are as many as they must be, and no slice of them fails whatever stands beside them
+pub accepted-attributes : (count : ℕ) (at rs ps : List ℕ) → attributesAnswer count at ≡ Accepted
+    → (countFits count ≡ true) × (length at ≡ attributeWords * count) × (lowest (fails Attribute at rs ps) count ≡ Nothing)
+unfolding attributesAnswer fails broken
+accepted-attributes count at rs ps p =
+    let p1 = unless-passes (countFits count) BadCount _ (lit< tt) p in
+    let p2 = unless-passes (eqb (length at) (attributeWords * count)) BadLength _ (lit< tt) (p1 .1) in
+    (p1 .0, eqb-true _ _ (p2 .0), refuse-passes Attribute (lowest (fails Attribute at rs ps) count) Accepted (p2 .1) .0)
+
+unless-other : (n : ℕ) (b : Bool) (refused next : Answer) → (numberOf refused ≡ n → ⊥) → (numberOf next ≡ n → ⊥) → numberOf (unless b refused next) ≡ n → ⊥
+unless-other n true refused next r h = h
+unless-other n false refused next r h = r
+
+refuse-other : (n : ℕ) (check : Check) (found : Found) (next : Answer) → (checkNumber check ≡ n → ⊥) → (numberOf next ≡ n → ⊥) → numberOf (refuse check found next) ≡ n → ⊥
+refuse-other n check Nothing next r h = h
+refuse-other n check (At k) next r h = r
+
+-- so that no clock of them gives number 3
+pub attributes-passed : (count : ℕ) (at rs ps os : List ℕ) → attributesAnswer count at ≡ Accepted → numberOf (clockAnswer count at rs ps os) ≡ 3 → ⊥
+unfolding clockAnswer settings
+attributes-passed count at rs ps os p =
+    rw (accepted-attributes count at rs ps p .2)
+    (unless-other 3 (countFits count) BadCount _ (λ e. omega arith)
+    (unless-other 3 (lengthsFit count at rs ps os) BadLength _ (λ e. omega arith)
+    (refuse-other 3 Register (lowest (fails Register at rs ps) count) _ (λ e. omega arith)
+    (refuse-other 3 Port (lowest (fails Port at rs ps) count) _ (λ e. omega arith)
+    (refuse-other 3 Inmode (lowest (fails Inmode at rs ps) count) _ (λ e. omega arith)
+    (refuse-other 3 Opmode (lowest (fails Opmode at rs ps) count) _ (λ e. omega arith)
+    (refuse-other 3 Alumode (lowest (fails Alumode at rs ps) count) _ (λ e. omega arith)
+    (refuse-other 3 Carryinsel (lowest (fails Carryinsel at rs ps) count) _ (λ e. omega arith) (λ e. omega arith)))))))))
+
 -- ---- refused
 
 abbrev Above : List ℕ → Type 0
@@ -170,3 +201,10 @@ unfolding clearAnswer
 clear-place count rs =
     unless-place (countFits count) BadCount _ (lit< tt)
     (λ _. unless-place (eqb (length rs) (registerWords * count)) BadLength Accepted (lit< tt) (λ _. lit< tt))
+
+pub attributes-place : (count : ℕ) (at : List ℕ) → placeOf (attributesAnswer count at) < 24
+unfolding attributesAnswer
+attributes-place count at =
+    unless-place (countFits count) BadCount _ (lit< tt)
+    (λ p. unless-place (eqb (length at) (attributeWords * count)) BadLength _ (lit< tt)
+    (λ _. refuse-place Attribute (fails Attribute at [] []) count Accepted (few count p) (lit< tt)))

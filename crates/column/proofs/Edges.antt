@@ -6,8 +6,8 @@ use native.Mathlib.Numerals.{add-one}
 use native.Mathlib.Omega.{arith}
 use lib.ListN.{length, take, drop}
 use Rattle.slice.specs.declared.inputs.Cascade.{Cascade}
-use Rattle.records.specs.Records.{attributeWords, registerWords, portWords, outputWords}
-use Rattle.column.specs.Column.{stretch, stacked, cascadeInto, shownAt, nextAt}
+use Rattle.records.specs.Records.{registerWords, outputWords}
+use Rattle.column.specs.Column.{stretch, stacked, attributesAt, portsAt, cascadeInto, shownAt, nextAt}
 use Rattle.column.specs.Parts.{Lengths, Edged}
 use Rattle.column.proofs.Stacks.{stretch-length, lent, written, whole}
 
@@ -31,19 +31,11 @@ pub record Kept (count : ℕ) (at rs₀ ps os₀ rs os : List ℕ) (x : Cascade)
 
 module _ (count : ℕ) (at rs₀ ps os₀ : List ℕ) (few : count ≤ 24) (right : Lengths count at rs₀ ps) (room : length os₀ ≡ outputWords * count)
     (rs os : List ℕ) (x : Cascade) (k : ℕ) (kept : Kept count at rs₀ ps os₀ rs os x k) (turn : k < count) where
-  pub lends : Lengths 1 (stretch attributeWords k at) (stretch registerWords k rs) (stretch portWords k ps)
-      × (length (stretch outputWords k os) ≡ outputWords)
-  lends = (
-    record {
-      attributes = stretch-length attributeWords k count at turn (right .attributes);
-      registers = stretch-length registerWords k count rs turn (kept .long);
-      ports = stretch-length portWords k count ps turn (right .ports);
-    },
-    stretch-length outputWords k count os turn (kept .wide),
-  )
+  pub lends : (length (stretch registerWords k rs) ≡ registerWords) × (length (stretch outputWords k os) ≡ outputWords)
+  lends = (stretch-length registerWords k count rs turn (kept .long), stretch-length outputWords k count os turn (kept .wide))
 
   pub turned : (up : Cascade) (rs′ os′ : List ℕ)
-      → Edged (stretch attributeWords k at) (stretch registerWords k rs) (stretch portWords k ps) x up rs′ os′
+      → Edged (attributesAt at k) (stretch registerWords k rs) (portsAt ps k) x up rs′ os′
       → Kept count at rs₀ ps os₀
       (take (registerWords * k) rs ++ (rs′ ++ drop registerWords (drop (registerWords * k) rs)))
       (take (outputWords * k) os ++ (os′ ++ drop outputWords (drop (outputWords * k) os)))

@@ -8,7 +8,10 @@ use native.Mathlib.Omega.{arith}
 use lib.Arith.{lt-of-le-ne}
 use lib.Dec.{leb, eqb, lit<}
 use lib.ListN.{getD}
-use borrow.Author.Tests.{eqb-true, eqb-false, eq-eqb}
+use borrow.Author.Tests.{eqb-true, eqb-false, eq-eqb, ne-eqb}
+use Rattle.records.specs.declared.Attributes.{Attributes}
+use Rattle.records.specs.declared.Registers.{Registers}
+use Rattle.records.specs.declared.Ports.{Ports}
 use Rattle.records.specs.Records.{attributeWidths, registerWidths, portWidths}
 use Rattle.slice.specs.Slice.{controlsOf, selectsOf}
 use Rattle.slice.specs.Legal.{offList, badInmode, badOpmode, badAlumode, badCarryinsel, faultOf}
@@ -45,13 +48,28 @@ as-search false false false true b9 = refl
 as-search false false false false true = refl
 as-search false false false false false = refl
 
+-- past the list's check the number is above 5
+past-list : (b6 b7 b8 b9 : Bool) → 5 < number false b6 b7 b8 b9
+past-list true b7 b8 b9 = lit< tt
+past-list false true b8 b9 = lit< tt
+past-list false false true b9 = lit< tt
+past-list false false false true = lit< tt
+past-list false false false false = lit< tt
+
 number-setting : (b3 b6 b7 b8 b9 : Bool) → (number b3 b6 b7 b8 b9 ≡ 3) ⊎ (5 < number b3 b6 b7 b8 b9)
 number-setting true b6 b7 b8 b9 = inl refl
-number-setting false true b7 b8 b9 = inr (lit< tt)
-number-setting false false true b8 b9 = inr (lit< tt)
-number-setting false false false true b9 = inr (lit< tt)
-number-setting false false false false true = inr (lit< tt)
-number-setting false false false false false = inr (lit< tt)
+number-setting false b6 b7 b8 b9 = inr (past-list b6 b7 b8 b9)
+
+-- 3 is the list's fault, whatever the registers and ports hold
+number-list : (b3 b6 b7 b8 b9 : Bool) → eqb (number b3 b6 b7 b8 b9) 3 ≡ b3
+number-list true b6 b7 b8 b9 = refl
+number-list false b6 b7 b8 b9 = let l = past-list b6 b7 b8 b9 in ne-eqb (number false b6 b7 b8 b9) 3 (λ (e : number false b6 b7 b8 b9 ≡ 3). omega arith)
+
+pub fault-list : (a : Attributes) (r : Registers) (p : Ports) → eqb (faultOf a r p) 3 ≡ offList a
+unfolding faultOf
+fault-list a r p =
+    number-list (offList a) (badInmode a (controlsOf a r p)) (badOpmode a (selectsOf (controlsOf a r p .opmode)))
+    (badAlumode (controlsOf a r p .alumode) (selectsOf (controlsOf a r p .opmode))) (badCarryinsel a (controlsOf a r p))
 
 -- below the place that a search finds the test fails, and at it it holds
 below-place : (f : ℕ → Bool) (i : ℕ) → i < 7 → i < place (lowest f 7) → f i ≡ false
@@ -134,6 +152,12 @@ module _ (at rs ps : List ℕ) (k : ℕ) (first : First) (so-far : FirstFault k 
 
 -- ---- the answer
 
+-- 3 is a width's or the list's
+pub attribute-parts : (count : ℕ) (at rs ps : List ℕ)
+    → lowest (fails Attribute at rs ps) count ≡ earlierOf (lowest (over attributeWidths at) count) (lowest (faulty Attribute at rs ps) count)
+unfolding fails broken over faulty
+attribute-parts count at rs ps = lowest-or (over attributeWidths at) (faulty Attribute at rs ps) count
+
 module _ (count : ℕ) (at rs ps : List ℕ) (first : First) (f : FirstFault count at rs ps first) where
   -- the check of the number n, and those after it
   check-at : (check : Check) (n : ℕ) → checkNumber check ≡ n → n ≤ first .number → (next next′ : Answer) → (n < first .number → next ≡ next′)
@@ -172,9 +196,7 @@ module _ (count : ℕ) (at rs ps : List ℕ) (first : First) (f : FirstFault cou
           f .none Attribute (⊎-elim (λ (e : first .number ≡ 3). absurd (no′ refl e)) (λ (l : 5 < first .number). omega arith) (f .setting))
 
   attribute-found : lowest (fails Attribute at rs ps) count ≡ earlierOf (lowest (over attributeWidths at) count) (offListOf first)
-  unfolding fails broken over faulty
-  attribute-found =
-      lowest-or (over attributeWidths at) (faulty Attribute at rs ps) count ∙ ap (earlierOf (lowest (over attributeWidths at) count)) list-found
+  attribute-found = attribute-parts count at rs ps ∙ ap (earlierOf (lowest (over attributeWidths at) count)) list-found
 
   -- a list's fault decides, whatever comes after
   decided : (found : Found) (next next′ : Answer) → first .number ≡ 3

@@ -18,8 +18,11 @@ part-count n k = omega arith
 pub in-stretch : (n : ℕ) {k count i : ℕ} → k < count → i < n → n * k + i < n * count
 in-stretch n {k} {count} {i} h l = omega (arith, mul-suc n k, mul-le-mul-left n h)
 
+pub part-length : (n k : ℕ) (ws : List ℕ) → n * k + n ≤ length ws → length (stretch n k ws) ≡ n
+part-length n k ws h = simp (length-take, length-drop) (omega arith)
+
 pub stretch-length : (n k count : ℕ) (ws : List ℕ) → k < count → length ws ≡ n * count → length (stretch n k ws) ≡ n
-stretch-length n k count ws h l = simp (length-take, length-drop, l) (omega (arith, mul-suc n k, mul-le-mul-left n h))
+stretch-length n k count ws h l = part-length n k ws (omega (arith, mul-suc n k, mul-le-mul-left n h))
 
 -- a word of a stretch is a word of the whole
 pub stretch-word : (n k i : ℕ) (ws : List ℕ) → i < n → getD (stretch n k ws) i 0 ≡ getD ws (n * k + i) 0

@@ -11,6 +11,8 @@ use Rattle.column.proofs.clock.Kinds as clock
 use Rattle.column.proofs.clock.Reads as clock-reads
 use Rattle.column.proofs.clear.Kinds as clear
 use Rattle.column.proofs.clear.Reads as clear-reads
+use Rattle.column.proofs.refusals.attributes_answer.Kinds as attributes-answer
+use Rattle.column.proofs.refusals.attributes_answer.Reads as attributes-answer-reads
 use Rattle.column.proofs.number.Kinds as number
 use Rattle.column.proofs.number.Reads as number-reads
 use Rattle.column.proofs.place.Kinds as place
@@ -31,3 +33,6 @@ number-once _ _ _ _ _ _ a b = a ∙ sym b
 
 pub place-once : Once place.ps place.r place-reads.Post
 place-once _ _ _ _ _ _ a b = a ∙ sym b
+
+pub attributes-answer-once : Once attributes-answer.ps attributes-answer.r attributes-answer-reads.Post
+attributes-answer-once _ _ _ _ _ _ a b = a ∙ sym b

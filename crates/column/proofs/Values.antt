@@ -9,7 +9,7 @@ use Rattle.slice.specs.Slice.{controlsOf, selectsOf, pathsOf, aSide, dSide, adO
 use Rattle.slice.specs.Legal.{offList, badInmode, badOpmode, badAlumode, badCarryinsel}
 use Rattle.column.specs.declared.Answer.{Answer}
 use Rattle.column.specs.Column.{cascadeInto, shownAt, nextAt, columnShown, columnNext}
-use Rattle.column.specs.Refusals.{numberOf, placeOf, exceeds, broken, fails, settings, lengthsFit, clockAnswer, clearAnswer}
+use Rattle.column.specs.Refusals.{numberOf, placeOf, exceeds, broken, fails, settings, lengthsFit, clockAnswer, clearAnswer, attributesAnswer}
 
 -- a slice's words, of which all others are 0
 abbrev preg : List ℕ
@@ -56,13 +56,18 @@ pub record Refused : Type 0 where
   -- a control register in effect that holds a forbidden setting refuses by itself
   pub held : one (replicate 11 0 ++ (1 ∷ replicate 9 0)) (replicate 9 0 ++ (64 ∷ replicate 8 0)) (replicate 11 0) ≡ 7 ∷ 0 ∷ []
   pub clearing : (told (clearAnswer 0 []) ≡ 1 ∷ 0 ∷ []) × (told (clearAnswer 1 []) ≡ 2 ∷ 0 ∷ []) × (told (clearAnswer 1 (replicate 18 9)) ≡ 0 ∷ 0 ∷ [])
+  -- the attributes alone: none; AREG 3 with ACASCREG 3 in slice 1; USE_MULT 2 in slice 0; a word too many
+  pub alone : (told (attributesAnswer 1 (replicate 21 0)) ≡ 0 ∷ 0 ∷ [])
+      × (told (attributesAnswer 2 (replicate 21 0 ++ (3 ∷ 0 ∷ 3 ∷ replicate 18 0))) ≡ 3 ∷ 1 ∷ [])
+      × (told (attributesAnswer 1 (replicate 16 0 ++ (2 ∷ replicate 4 0))) ≡ 3 ∷ 0 ∷ [])
+      × (told (attributesAnswer 1 (replicate 22 0)) ≡ 2 ∷ 0 ∷ [])
 
 pub neighbours : Neighbours
 unfolding columnNext columnShown nextAt shownAt cascadeInto sliceNext nextOf edge load sliceOutputs sliceCascade outputsOfSettled cascadeOf sliceSettled settledOf resultOf sliceOperands operandsOf selectsOf productOf leftOf rightOf adOf aSide dSide controlsOf pathsOf unitResult arithmetic logicRows preAdder product detected unmasked
 neighbours = record { before-the-edge = refl; shown-before = refl }
 
 pub refused : Refused
-unfolding clockAnswer clearAnswer lengthsFit settings fails broken exceeds offList badInmode badOpmode badAlumode badCarryinsel controlsOf selectsOf
+unfolding clockAnswer clearAnswer attributesAnswer lengthsFit settings fails broken exceeds offList badInmode badOpmode badAlumode badCarryinsel controlsOf selectsOf
 refused =
     record {
       none = refl;
@@ -78,4 +83,5 @@ refused =
       carryinsel = refl;
       held = refl;
       clearing = (refl, refl, refl);
+      alone = (refl, refl, refl, refl);
     }

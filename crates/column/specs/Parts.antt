@@ -6,7 +6,9 @@ use mathlib.Core.Logic.{_⊎_}
 use mathlib.Core.List.{List, [], _∷_}
 use lib.Dec.{T, ltb, leb, eqb}
 use lib.ListN.{length}
-use Rattle.records.specs.Records.{attributeWords, registerWords, portWords, outputWords, attributesOf, registersOf, portsOf, registersWords, outputsWords}
+use Rattle.records.specs.declared.Attributes.{Attributes}
+use Rattle.records.specs.declared.Ports.{Ports}
+use Rattle.records.specs.Records.{attributeWords, registerWords, portWords, outputWords, registersOf, registersWords, outputsWords}
 use Rattle.slice.specs.declared.inputs.Cascade.{Cascade}
 use Rattle.slice.specs.Slice.{sliceOutputs, sliceCascade, sliceNext}
 use Rattle.slice.specs.Legal.{offList}
@@ -79,10 +81,10 @@ judgedBy first =
 -- ---- the edge
 
 -- a slice's edge leaves its own words so, and hands this up
-pub record Edged (at rs ps : List ℕ) (x up : Cascade) (rs′ os′ : List ℕ) : Type 0 where
-  pub hands : up ≡ sliceCascade (attributesOf at) (registersOf rs) (portsOf ps) x
-  pub registers : rs′ ≡ registersWords (sliceNext (attributesOf at) (registersOf rs) (portsOf ps) x)
-  pub outputs : os′ ≡ outputsWords (sliceOutputs (attributesOf at) (registersOf rs) (portsOf ps) x)
+pub record Edged (a : Attributes) (rs : List ℕ) (p : Ports) (x up : Cascade) (rs′ os′ : List ℕ) : Type 0 where
+  pub hands : up ≡ sliceCascade a (registersOf rs) p x
+  pub registers : rs′ ≡ registersWords (sliceNext a (registersOf rs) p x)
+  pub outputs : os′ ≡ outputsWords (sliceOutputs a (registersOf rs) p x)
 
 -- the edge of every slice leaves the lent words so
 pub record AllEdged (count : ℕ) (at rs ps rs′ os′ : List ℕ) : Type 0 where

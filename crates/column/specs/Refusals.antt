@@ -1,7 +1,7 @@
--- The refusals of a clock and of clearing (01, "Refusal numbers"). Assumes nothing.
+-- The refusals of a clock, of clearing and of the attributes alone (01, "Refusal numbers"). Assumes nothing.
 use Prim.Native.Nat.{ℕ, zero, suc, _*_, _^_}
 use mathlib.Core.Bool.{Bool, true, false, _&&_, _||_}
-use mathlib.Core.List.{List}
+use mathlib.Core.List.{List, []}
 use lib.Dec.{leb, eqb}
 use lib.ListN.{length, getD}
 use Rattle.records.specs.Records.{attributeWords, registerWords, portWords, outputWords, attributeWidths, registerWidths, portWidths, attributesOf, registersOf, portsOf}
@@ -117,3 +117,9 @@ clockAnswer count at rs ps os =
 unfoldable pub clearAnswer : (count : ℕ) → (rs : List ℕ) → Answer
 clearAnswer count rs =
     unless (countFits count) BadCount (unless (eqb (length rs) (registerWords * count)) BadLength Accepted)
+
+-- The attributes by themselves: 1, then 2 of their length, then 3
+unfoldable pub attributesAnswer : (count : ℕ) → (at : List ℕ) → Answer
+attributesAnswer count at =
+    unless (countFits count) BadCount (unless (eqb (length at) (attributeWords * count)) BadLength
+    (refuse Attribute (lowest (fails Attribute at [] []) count) Accepted))

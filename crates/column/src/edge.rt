@@ -3,10 +3,10 @@
 ghost use mathlib.Core.Path.{_≡_};
 ghost use Prim.Native.Nat.{_≤_, _*_};
 ghost use lib.ListN.{length};
-ghost use Rattle.records.specs.Records.{outputWords};
+ghost use Rattle.records.specs.Records.{registerWords, outputWords};
 ghost use Rattle.column.specs.Parts.{Lengths, Edged, AllEdged};
-use crate::stretch::attributes_of;
-use crate::stretch::ports_of;
+use crate::stretch::attributes_at;
+use crate::stretch::ports_at;
 use crate::stretch::registers_of;
 use crate::stretch::store;
 use records::Attributes;
@@ -17,19 +17,17 @@ use slice::Cascade;
 
 // One slice's edge: it writes its own stretches, and nowhere else.
 fn one_edge(
-    attributes: &[u64],
+    a: Attributes,
     registers: &mut [u64],
-    ports: &[u64],
+    p: Ports,
     outputs: &mut [u64],
     below: Cascade,
 ) -> Cascade
-    requires { ⌜ Lengths 1 (now attributes) (now registers) (now ports) × (length (now outputs) ≡ outputWords) ⌝ }
+    requires { ⌜ (length (now registers) ≡ registerWords) × (length (now outputs) ≡ outputWords) ⌝ }
     ensures { λ up.
-        ⌜ Edged (now (attributes .entry)) (now (registers .entry)) (now (ports .entry)) below up (now (registers .exit)) (now (outputs .exit)) ⌝ }
+        ⌜ Edged a (now (registers .entry)) p below up (now (registers .exit)) (now (outputs .exit)) ⌝ }
 {
-    let a = attributes_of(attributes);
     let r = registers_of(&registers[..]);
-    let p = ports_of(ports);
     let step = slice::stepped(a, r, p, below);
     let next = step.next.words();
     let shown = step.shown.words();
@@ -52,14 +50,12 @@ pub fn all_edges(
 {
     let mut below = Cascade { a: 0, b: 0, p: 0 };
     for k in 0..count {
-        let a = Attributes::WORDS * k;
         let r = Registers::WORDS * k;
-        let p = Ports::WORDS * k;
         let o = Outputs::WORDS * k;
         below = one_edge(
-            &attributes[a..a + Attributes::WORDS],
+            attributes_at(attributes, k),
             &mut registers[r..r + Registers::WORDS],
-            &ports[p..p + Ports::WORDS],
+            ports_at(ports, k),
             &mut outputs[o..o + Outputs::WORDS],
             below,
         );

@@ -1,5 +1,5 @@
-// One column of 1 to 24 slices: a clock of it, and clearing. Both take whatever they are lent, and refuse what is malformed
-// or forbidden by number and lowest slice, with nothing changed.
+// One column of 1 to 24 slices: a clock of it, clearing, and the checks of its attributes alone. Each takes whatever it is lent,
+// and refuses what is malformed or forbidden by number and lowest slice, with nothing changed.
 ghost use mathlib.Core.Path.{_≡_};
 ghost use Rattle.column.specs.Refusals.{numberOf, placeOf};
 ghost use Rattle.column.specs.Calls.{Clocked, Cleared};
@@ -12,6 +12,7 @@ pub use records::Attributes;
 pub use records::Outputs;
 pub use records::Ports;
 pub use records::Registers;
+pub use refusals::attributes_answer;
 
 // The checks that look into the lent words: numbers 3 to 9.
 pub enum Check {

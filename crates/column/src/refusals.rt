@@ -1,15 +1,18 @@
 // The refusals: which checks a slice fails, the lowest slice that fails one, and the checks in their order. Nothing is stored.
 ghost use mathlib.Core.Path.{_≡_};
+ghost use mathlib.Core.List.{[]};
 ghost use Prim.Native.Nat.{_≤_, _*_};
 ghost use lib.Dec.{T};
 ghost use lib.ListN.{length};
-ghost use Rattle.column.specs.Refusals.{checkNumber, lowest, refuse, settings, countFits, lengthsFit, clockAnswer, clearAnswer};
-ghost use Rattle.column.specs.Parts.{Lengths, Table, over, earlierOf, FirstFault, offListOf, judgedBy};
+ghost use Rattle.records.specs.Records.{attributeWords};
+ghost use Rattle.column.specs.declared.Check.the-variants.{Attribute};
+ghost use Rattle.column.specs.Refusals.{checkNumber, lowest, refuse, settings, countFits, lengthsFit, clockAnswer, clearAnswer, attributesAnswer};
+ghost use Rattle.column.specs.Parts.{Lengths, Table, over, earlierOf, faulty, FirstFault, offListOf, judgedBy};
 use crate::Answer;
 use crate::Check;
-use crate::stretch::attributes_of;
-use crate::stretch::ports_of;
-use crate::stretch::registers_of;
+use crate::stretch::attributes_at;
+use crate::stretch::ports_at;
+use crate::stretch::registers_at;
 use records::Attributes;
 use records::Outputs;
 use records::Ports;
@@ -80,13 +83,10 @@ fn first_fault(count: usize, attributes: &[u64], registers: &[u64], ports: &[u64
     let mut number = 10;
     let mut place = 0;
     for k in 0..count {
-        let a = Attributes::WORDS * k;
-        let r = Registers::WORDS * k;
-        let p = Ports::WORDS * k;
         let fault = slice::fault_of(
-            attributes_of(&attributes[a..a + Attributes::WORDS]),
-            registers_of(&registers[r..r + Registers::WORDS]),
-            ports_of(&ports[p..p + Ports::WORDS]),
+            attributes_at(attributes, k),
+            registers_at(registers, k),
+            ports_at(ports, k),
         );
         if fault < number {
             number = fault;
@@ -97,6 +97,20 @@ fn first_fault(count: usize, attributes: &[u64], registers: &[u64], ports: &[u64
         number: number,
         slice: place,
     }
+}
+
+// The lowest slice whose attributes are off their list. A list's fault comes before any that the registers and ports can have.
+fn first_off_list(count: usize, attributes: &[u64]) -> Found
+    requires { ⌜ (count ≤ 24) × (length (now attributes) ≡ attributeWords * count) ⌝ }
+    ensures { λ r. ⌜ r ≡ lowest (faulty Attribute (now (attributes .entry)) [] []) count ⌝ }
+{
+    for k in 0..count {
+        let settings = attributes_at(attributes, k);
+        if slice::fault_of(settings, Registers::cleared(), Ports::cleared()) == 3 {
+            return Found::At(k);
+        }
+    }
+    Found::Nothing
 }
 
 fn off_list(first: First) -> Found
@@ -203,4 +217,21 @@ pub fn clear_answer(count: usize, registers: &[u64]) -> Answer
         return Answer::BadLength;
     }
     Answer::Accepted
+}
+
+// Checks 1 to 3 of a column's attributes alone.
+pub fn attributes_answer(count: usize, attributes: &[u64]) -> Answer
+    ensures { λ r. ⌜ r ≡ attributesAnswer count (now (attributes .entry)) ⌝ }
+{
+    if !count_fits(count) {
+        return Answer::BadCount;
+    }
+    if attributes.len() != Attributes::WORDS * count {
+        return Answer::BadLength;
+    }
+    let attribute = earlier(
+        first_over(&Attributes::WIDTHS, attributes, count),
+        first_off_list(count, attributes),
+    );
+    refuse(Check::Attribute, attribute, Answer::Accepted)
 }

@@ -1,12 +1,14 @@
 // A slice's own stretch of the lent words: the record that it holds, and writing it.
 ghost use mathlib.Core.Path.{_≡_};
+ghost use Prim.Native.Nat.{_≤_, _+_, _*_};
 ghost use lib.ListN.{length, replicate};
 ghost use Rattle.records.specs.Records.{attributeWords, registerWords, portWords, attributesOf, registersOf, portsOf};
+ghost use Rattle.column.specs.Column.{attributesAt, registersAt, portsAt};
 use records::Attributes;
 use records::Ports;
 use records::Registers;
 
-pub fn attributes_of(words: &[u64]) -> Attributes
+fn attributes_of(words: &[u64]) -> Attributes
     requires { ⌜ length (now words) ≡ attributeWords ⌝ }
     ensures { λ r. ⌜ r ≡ attributesOf (now (words .entry)) ⌝ }
 {
@@ -61,7 +63,7 @@ pub fn registers_of(words: &[u64]) -> Registers
     }
 }
 
-pub fn ports_of(words: &[u64]) -> Ports
+fn ports_of(words: &[u64]) -> Ports
     requires { ⌜ length (now words) ≡ portWords ⌝ }
     ensures { λ r. ⌜ r ≡ portsOf (now (words .entry)) ⌝ }
 {
@@ -78,6 +80,31 @@ pub fn ports_of(words: &[u64]) -> Ports
         ce: words[9],
         rst: words[10],
     }
+}
+
+// Slice k's record, of a column's words.
+pub fn attributes_at(words: &[u64], k: usize) -> Attributes
+    requires { ⌜ attributeWords * k + attributeWords ≤ length (now words) ⌝ }
+    ensures { λ r. ⌜ r ≡ attributesAt (now (words .entry)) k ⌝ }
+{
+    let from = Attributes::WORDS * k;
+    attributes_of(&words[from..from + Attributes::WORDS])
+}
+
+pub fn registers_at(words: &[u64], k: usize) -> Registers
+    requires { ⌜ registerWords * k + registerWords ≤ length (now words) ⌝ }
+    ensures { λ r. ⌜ r ≡ registersAt (now (words .entry)) k ⌝ }
+{
+    let from = Registers::WORDS * k;
+    registers_of(&words[from..from + Registers::WORDS])
+}
+
+pub fn ports_at(words: &[u64], k: usize) -> Ports
+    requires { ⌜ portWords * k + portWords ≤ length (now words) ⌝ }
+    ensures { λ r. ⌜ r ≡ portsAt (now (words .entry)) k ⌝ }
+{
+    let from = Ports::WORDS * k;
+    ports_of(&words[from..from + Ports::WORDS])
 }
 
 // Every word of `to` becomes the word of `from` at its place.

@@ -33,7 +33,7 @@ loop-again c =
     let at-edge = c .before .before .before .before in
     let test = at-edge .before .before .before .before .before in
     let pre = test .before .before .before .before .before .before .pre in
-    let done = simp part-count at (at-edge .one-edge .ensures) in
+    let done = rw (at-edge .before .before .before .before .attributes-at .ensures, at-edge .before .before .ports-at .ensures) at (simp part-count at (at-edge .one-edge .ensures)) in
     simp part-count
     (turned _ _ _ _ _ (pre .0) (pre .1) (pre .2) _ _ _ _ (test .before .loop .inv) (test .loop-test .taken) _ _ _ done)
 
@@ -51,9 +51,4 @@ returns c =
 pub all-edges-spec : {M : Type 1} → statement M
 all-edges-spec =
     tie.close
-    (tie.spec Inv-loop μ-loop loop-holds (λ c. search needs) (λ c. search needs) (λ c. search needs) (λ c. search needs)
-    (λ c. search needs) (λ c. search needs) (λ c. search needs) (λ c. search needs) (λ c. search needs) (λ c. search needs)
-    (λ c. search needs) (λ c. search needs) (λ c. search needs) (λ c. search needs) (λ c. search needs) (λ c. search needs)
-    (λ c. search needs) (λ c. search needs) (λ c. search needs) (λ c. search needs) (λ c. search needs) (λ c. search needs)
-    (λ c. search needs) (λ c. search needs) one-edge-requires (λ c. search needs) (λ c. search needs) loop-again
-    (λ c. search needs) (λ c. search needs) returns)
+    (tie.spec Inv-loop μ-loop loop-holds (λ c. search needs) (λ c. search needs) (λ c κs. search needs) (λ c. search needs) (λ c. search needs) (λ c. search needs) (λ c. search needs) (λ c. search needs) (λ c κs. search needs) (λ c. search needs) (λ c. search needs) (λ c. search needs) (λ c. search needs) (λ c. search needs) one-edge-requires (λ c. search needs) (λ c. search needs) loop-again (λ c. search needs) (λ c. search needs) returns)

@@ -2,7 +2,7 @@
 use mathlib.Core.Path.{_≡_, _∙_, sym, ap}
 use lib.ListN.{length}
 use Rattle.slice.specs.declared.edge.Step.{Step}
-use Rattle.records.specs.Records.{attributesOf, registersOf, portsOf, registersWords, outputsWords}
+use Rattle.records.specs.Records.{registersOf, registersWords, outputsWords}
 use Rattle.slice.specs.Slice.{stepOf}
 use borrow.Author.Needs.{needs}
 use Rattle.column.proofs.edge.one_edge.Statement.{statement}
@@ -11,22 +11,18 @@ use Rattle.column.proofs.edge.one_edge.Tie as tie
 store-requires : tie.Need-store-requires
 store-requires c κs =
     let at-words = c .before .before .before in
-    at-words .before .before .before .before .before .before .before .before .before .before .pre .0 .registers
-    ∙ ap length (sym (at-words .words .ensures))
+    at-words .before .before .before .before .before .before .pre .0 ∙ ap length (sym (at-words .words .ensures))
 
 store-requires-2 : tie.Need-store-requires-2
 store-requires-2 c κs =
     let at-words = c .before .before .before .before .before .before .before in
-    at-words .before .before .before .before .before .before .before .before .before .before .before .pre .1
-    ∙ ap length (sym (at-words .words2 .ensures))
+    at-words .before .before .before .before .before .before .before .pre .1 ∙ ap length (sym (at-words .words2 .ensures))
 
 -- what the one-slice rule gave, of the words that were lent
 steps : (c : tie.After-stepped) →
-    let a = c .before .before .before .before .before .before .before .before .before .args in
-    c .stepped .result ≡ stepOf (attributesOf (a .attributes .now)) (registersOf (a .registers .now)) (portsOf (a .ports .now)) (a .below)
-steps c =
-    rw (c .before .before .before .before .attributes-of .ensures, c .before .before .registers-of .ensures, c .before .ports-of .ensures)
-    at (c .stepped .ensures)
+    let x = c .before .before .before .before .before .args in
+    c .stepped .result ≡ stepOf (x .a) (registersOf (x .registers .now)) (x .p) (x .below)
+steps c = rw (c .before .registers-of .ensures) at (c .stepped .ensures)
 
 returns : tie.Need-returns
 unfolding stepOf
@@ -43,6 +39,5 @@ returns c =
 pub one-edge-spec : {M : Type 1} → statement M
 one-edge-spec =
     tie.close
-    (tie.spec (λ c κs. search needs) (λ c κs. search needs) (λ c κs. search needs) (λ c κs. search needs) (λ c κs. search needs)
-    (λ c κs. search needs) (λ c. search needs) store-requires (λ c. search needs) store-requires-2 (λ c. search needs)
+    (tie.spec (λ c κs. search needs) (λ c κs. search needs) (λ c κs. search needs) (λ c κs. search needs) (λ c. search needs) store-requires (λ c. search needs) store-requires-2 (λ c. search needs)
     (λ c. search needs) returns)

@@ -7,7 +7,6 @@ use native.Mathlib.Numerals.{add-one}
 use Rattle.slice.specs.Legal.{faultOf}
 use Rattle.column.specs.Column.{attributesAt, registersAt, portsAt}
 use Rattle.column.specs.Parts.{FirstFault}
-use Rattle.column.proofs.Stacks.{part-count, stretch-length}
 use Rattle.column.proofs.Faults.{no-slices, new-first, old-first}
 use borrow.Author.Needs.{needs}
 use Rattle.column.proofs.refusals.first_fault.Statement.{statement}
@@ -23,35 +22,18 @@ abbrev μ-loop : tie.MeasureT-loop
 loop-holds : tie.Need-loop-holds Inv-loop μ-loop
 loop-holds c = (search needs, no-slices _ _ _)
 
-attributes-of-requires : tie.Need-attributes-of-requires Inv-loop μ-loop
-attributes-of-requires c κs =
-    let start = c .before .before .before .before .before .before in
-    simp part-count (stretch-length 21 _ _ _ (c .before .loop-test .taken) (start .pre .1 .attributes))
-
-registers-of-requires : tie.Need-registers-of-requires Inv-loop μ-loop
-registers-of-requires c κs =
-    let test = c .before .before .before in
-    simp part-count (stretch-length 18 _ _ _ (test .loop-test .taken) (test .before .before .before .before .before .pre .1 .registers))
-
-ports-of-requires : tie.Need-ports-of-requires Inv-loop μ-loop
-ports-of-requires c κs =
-    let test = c .before .before .before .before .before in
-    simp part-count (stretch-length 11 _ _ _ (test .loop-test .taken) (test .before .before .before .before .before .pre .1 .ports))
-
 -- what the call said, of the slice that it was about
 told : (c : tie.After-fault-of Inv-loop μ-loop) →
-    let at = c .before .before .before .before .before .before .before .before in
+    let at = c .before .before .before .before .before in
     let a = at .before .before .before .before .args in
     c .fault-of .result ≡ faultOf (attributesAt (a .attributes .now) (at .loop .k)) (registersAt (a .registers .now) (at .loop .k)) (portsAt (a .ports .now) (at .loop .k))
 told c =
-    simp part-count at
-    (rw (c .before .before .before .before .before .attributes-of .ensures, c .before .before .before .registers-of .ensures, c .before .ports-of .ensures)
-    at (c .fault-of .ensures))
+    rw (c .before .before .before .attributes-at .ensures, c .before .before .registers-at .ensures, c .before .ports-at .ensures) at (c .fault-of .ensures)
 
 loop-again : tie.Need-loop-again Inv-loop μ-loop
 loop-again c =
-    let at = c .before .before .before .before .before .before .before .before .before in (
-      omega (arith, c .before .before .before .before .before .before .before .before .loop-test .taken),
+    let at = c .before .before .before .before .before .before in (
+      omega (arith, c .before .before .before .before .before .loop-test .taken),
       ⊎-elim
           (λ w. rw (add-one, w .1, w .2, told (c .before)) (new-first _ _ _ _ _ (at .loop .inv .1) (rw (told (c .before)) at (w .0 .taken))))
           (λ w. rw (add-one, w .1, w .2) (old-first _ _ _ _ _ (at .loop .inv .1) (rw (told (c .before)) at (w .0 .left))))
@@ -67,8 +49,5 @@ returns c =
 pub first-fault-spec : {M : Type 1} → statement M
 first-fault-spec =
     tie.close
-    (tie.spec Inv-loop μ-loop loop-holds (λ c. search needs) (λ c. search needs) (λ c. search needs) (λ c. search needs)
-    (λ c. search needs) (λ c. search needs) (λ c. search needs) (λ c. search needs) attributes-of-requires (λ c. search needs)
-    (λ c. search needs) (λ c. search needs) (λ c. search needs) (λ c. search needs) registers-of-requires (λ c. search needs)
-    (λ c. search needs) (λ c. search needs) (λ c. search needs) (λ c. search needs) ports-of-requires (λ c κs. search needs)
+    (tie.spec Inv-loop μ-loop loop-holds (λ c κs. search needs) (λ c κs. search needs) (λ c κs. search needs) (λ c κs. search needs)
     (λ c. search needs) (λ c. search needs) loop-again returns)

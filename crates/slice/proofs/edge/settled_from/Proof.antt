@@ -6,7 +6,7 @@ use Rattle.slice.proofs.edge.settled_from.Tie as tie
 
 returns : tie.Need-returns
 unfolding settledOf
-returns c = cc
+returns c = rw (c .detect .ensures)
 
 pub settled-from-spec : {M : Type 1} → statement M
 settled-from-spec = tie.close (tie.spec (λ c κs. search needs) returns)

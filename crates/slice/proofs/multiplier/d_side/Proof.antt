@@ -6,7 +6,7 @@ use Rattle.slice.proofs.multiplier.d_side.Tie as tie
 
 returns : tie.Need-returns
 unfolding dSide
-returns c = cc
+returns c = rw (c .before .bit .ensures) at (c .mux .ensures)
 
 pub d-side-spec : {M : Type 1} → statement M
 d-side-spec = tie.close (tie.spec (λ c κs. search needs) (λ c κs. search needs) returns)

@@ -1,0 +1,90 @@
+-- The lines of a group, one a slice: malformed, one of them, the last of them; and the words that they leave. Assumes nothing.
+use mathlib.Core.Path.{_≡_, refl, sym, ap, ap₂, _∙_}
+use mathlib.Core.Bool.{Bool, true, false, cond, _&&_}
+use mathlib.Core.List.{List, _++_}
+use Prim.Native.Nat.{ℕ, _+_, _*_, _-_, _<_, _≤_}
+use native.Mathlib.Nat.{mul-suc, mul-le-mul-left}
+use native.Mathlib.Omega.{arith}
+use lib.ListN.{length, take, drop, length-take, length-drop}
+use lib.Seq.{drop-drop}
+use borrow.Author.Tests.{lt-leb, le-leb}
+use Rattle.records.specs.Records.{attributeWords, portWords}
+use Rattle.column.proofs.Stacks.{part-count}
+use Rattle.text.specs.Numbers.{lineOf, isWell, wordsOf}
+use Rattle.text.specs.Printed.{pasted}
+use Rattle.text.specs.Calls.{Taken}
+use Rattle.text.proofs.Paste.{pasted-length}
+use Rattle.text.proofs.Lines.{words-length}
+use Rattle.listing.specs.declared.player.Phase.{Phase}
+use Rattle.listing.specs.declared.player.Phase.the-variants.{Settings, Clocks}
+use Rattle.listing.specs.declared.player.Player.{Player}
+use Rattle.listing.specs.declared.player.Step.{Step}
+use Rattle.listing.specs.Steps.{oneMore, goesOn, refusal, lastOfGroup, groupStep, settingsStep, clockStep}
+use Rattle.listing.specs.Listing.{Left, leaving, settingsOf, clockOf, lineLeaves, portsLeave}
+use Rattle.listing.specs.Parts.{SettingsTaken, PortsTaken}
+
+-- ---- the step of a line
+
+module _ (q : Player) (well : Bool) (whole : Step) where
+  pub malformed-step : well ≡ false → groupStep q well whole ≡ refusal q 12 (q .lines)
+  unfolding groupStep
+  malformed-step w = rw w
+
+  pub one-of-step : well ≡ true → q .given + 1 < q .count → groupStep q well whole ≡ goesOn (oneMore q)
+  unfolding groupStep
+  one-of-step w h = rw (w, lt-leb (q .count) (q .given + 1) h)
+
+  pub last-step : well ≡ true → q .count ≤ q .given + 1 → groupStep q well whole ≡ whole
+  unfolding groupStep
+  last-step w h = rw (w, le-leb (q .count) (q .given + 1) h)
+
+-- ---- the words of a line, read into their slice's stretch
+
+-- a slice's stretch lies within the words of 24
+pub stretch-room : (n k : ℕ) (ws : List ℕ) → k < 24 → length ws ≡ n * 24 → n * k + n ≤ length ws
+stretch-room n k ws h l = omega (arith, mul-suc n k, mul-le-mul-left n h)
+
+-- what stands at the stretch of slice k once got was put there
+abbrev pub put-at : (n k : ℕ) (ws got : List ℕ) → List ℕ
+put-at n k ws got = take (n * k) ws ++ (got ++ drop (n * k + n - n * k) (drop (n * k) ws))
+
+-- a line that was read into the stretch of slice k
+pub record ReadIn (letter n k : ℕ) (line ws : List ℕ) (r : Bool) (got : List ℕ) : Type 0 where
+  pub well : isWell (lineOf letter n line) ≡ r
+  pub words : put-at n k ws got ≡ pasted (n * k) (wordsOf n (lineOf letter n line)) ws
+  pub long : length (put-at n k ws got) ≡ length ws
+
+pub read-in : (letter n k : ℕ) (line ws : List ℕ) {r : Bool} {got : List ℕ} → k < 24 → length ws ≡ n * 24
+    → Taken letter line (take (n * k + n - n * k) (drop (n * k) ws)) r got → ReadIn letter n k line ws r got
+read-in letter n k line ws {r} {got} h l t =
+    let room = stretch-room n k ws h l in
+    let part : length (take (n * k + n - n * k) (drop (n * k) ws)) ≡ n = simp (length-take, length-drop) (omega arith) in
+    let new = wordsOf n (lineOf letter n line) in
+    let end : drop (n * k + n - n * k) (drop (n * k) ws) ≡ drop (n * k + length new) ws =
+    ap (λ (m : ℕ). drop m (drop (n * k) ws)) (part-count n k)
+    ∙ drop-drop n (n * k) ws
+    ∙ ap (λ (m : ℕ). drop (n * k + m) ws) (sym (words-length letter n line)) in
+    let words : put-at n k ws got ≡ pasted (n * k) new ws =
+    ap₂ (λ (a b : List ℕ). take (n * k) ws ++ (a ++ b)) (t .words ∙ ap (λ (m : ℕ). wordsOf m (lineOf letter m line)) part) end in
+    record {
+      well = sym (t .well ∙ ap (λ (m : ℕ). isWell (lineOf letter m line)) part);
+      words = words;
+      long = ap length words ∙ pasted-length (n * k) new ws (omega (arith, words-length letter n line));
+    }
+
+-- ---- what the lines leave, as one
+
+pub of-phase : (q : Player) (line at rs ps os : List ℕ) (f g : Phase) (l : Left) → f ≡ g → l ≡ lineLeaves g q line at rs ps os → l ≡ lineLeaves f q line at rs ps os
+of-phase q line at rs ps os f g l e h = h ∙ ap (λ (x : Phase). lineLeaves x q line at rs ps os) (sym e)
+
+module _ (q : Player) (line at rs ps os : List ℕ) (r : Step) where
+  pub settings-left : (at′ : List ℕ) → SettingsTaken q line at r at′ → leaving r at′ rs ps os ≡ lineLeaves Settings q line at rs ps os
+  settings-left at′ t =
+      ap (λ (s : Step). leaving s at′ rs ps os) (t .step)
+      ∙ ap (λ (l : List ℕ). leaving (groupStep q (isWell (lineOf 65 attributeWords line)) (settingsStep q (settingsOf q l))) l rs ps os) (t .words)
+
+  pub ports-left : (rs′ ps′ os′ : List ℕ) → PortsTaken q line at rs ps os r rs′ ps′ os′ → leaving r at rs′ ps′ os′ ≡ lineLeaves Clocks q line at rs ps os
+  ports-left rs′ ps′ os′ t =
+      ap (λ (s : Step). leaving s at rs′ ps′ os′) (t .step)
+      ∙ ap₂ (λ (x y : List ℕ). leaving (groupStep q (isWell (lineOf 80 portWords line)) (clockStep q (clockOf q at rs ps′ os))) at x ps′ y) (t .registers) (t .outputs)
+      ∙ ap (λ (l : List ℕ). portsLeave q (lineOf 80 portWords line) at rs l os) (t .ports)

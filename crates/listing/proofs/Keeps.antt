@@ -1,0 +1,102 @@
+-- What a player's numbers keep to, from byte to byte. Assumes nothing.
+use mathlib.Core.Path.{_≡_, refl, sym, ap, _∙_, subst}
+use mathlib.Core.Bool.{Bool, true, false, cond, _&&_}
+use mathlib.Core.List.{List, [], _∷_, _++_}
+use Prim.Native.Nat.{ℕ, zero, suc, _+_, _*_, _-_, _<_, _≤_}
+use native.Mathlib.Omega.{arith}
+use lib.Dec.{leb, eqb}
+use lib.ListN.{length, take, getD}
+use borrow.Author.Tests.{leb-true, leb-false, eqb-false}
+use Rattle.column.specs.declared.Answer.{Answer}
+use Rattle.column.specs.Refusals.{numberOf, placeOf, countFits}
+use Rattle.text.specs.Numbers.{Numbers, isWell, wordsOf, lineOf}
+use Rattle.records.specs.Records.{attributeWords, portWords}
+use Rattle.listing.specs.declared.player.Phase.{Phase}
+use Rattle.listing.specs.declared.player.Phase.the-variants.{Head, Settings, Clocks, Stopped}
+use Rattle.listing.specs.declared.player.Player.{Player}
+use Rattle.listing.specs.declared.player.Step.{Step}
+use Rattle.listing.specs.Steps.{counted, longer, oneMore, named, clocking, clockRun, halted, goesOn, refusal, lastOfGroup, answered, headStep, groupStep, settingsStep, clockStep}
+use Rattle.listing.specs.Listing.{Play, Turn, Left, turnOf, working, lineTurn, partTurn, lineLeaves, byteTurn, settingsOf, clockOf, placed, stepping}
+use Rattle.listing.specs.Parts.{Fair, Able}
+
+-- what holds of both ways of a test holds of the step
+either : (P : Step → Type 0) (b : Bool) (s t : Step) → (b ≡ true → P s) → (b ≡ false → P t) → P (cond b s t)
+either P true s t f g = f refl
+either P false s t f g = g refl
+
+pub both-true : (a b : Bool) → a && b ≡ true → (a ≡ true) × (b ≡ true)
+both-true true b e = (refl, e)
+both-true false b e = let z : false ≡ true = e in (cc, cc)
+
+-- a player that has counted its line, and can run one clock more
+abbrev Goes : (n : ℕ) → Step → Type 0
+Goes n s = Able (s .player) n
+
+module _ (q : Player) (n : ℕ) (fair : Fair q) (clocks : q .clocks + suc n < 18446744073709551615) (lines : q .lines + n < 18446744073709551615) where
+  halts : (number place : ℕ) → Goes n (refusal q number place)
+  halts number place =
+      record { fair = record { count = fair .count; given = omega arith; held = omega arith }; clocks = omega arith; lines = lines }
+
+  head-goes : (x : Numbers) → Goes n (headStep q x)
+  unfolding headStep
+  head-goes x =
+      let c = getD (wordsOf 1 x) 0 0 in
+      either (Goes n) (isWell x) _ _
+      (λ w.
+      either (Goes n) (countFits c) (goesOn (named q c)) (refusal q 1 0)
+      (λ e. record { fair = record { count = leb-true c 24 (both-true (leb 1 c) (leb c 24) e .1); given = omega arith; held = fair .held }; clocks = omega arith; lines = lines })
+      (λ e. halts 1 0))
+      (λ w. halts 12 (q .lines))
+
+  answered-goes : (a : Answer) (accepted : Step) → Goes n accepted → Goes n (answered q a accepted)
+  unfolding answered
+  answered-goes a accepted g = either (Goes n) (eqb (numberOf a) 0) accepted _ (λ e. g) (λ e. halts (numberOf a) (placeOf a))
+
+  settings-go : (a : Answer) → Goes n (settingsStep q a)
+  settings-go a =
+      answered-goes a _
+      (record { fair = record { count = fair .count; given = omega arith; held = fair .held }; clocks = omega arith; lines = lines })
+
+  clock-goes : (a : Answer) → Goes n (clockStep q a)
+  clock-goes a =
+      answered-goes a _
+      (record { fair = record { count = fair .count; given = omega arith; held = fair .held }; clocks = omega arith; lines = lines })
+
+  group-goes : (well : Bool) (whole : Step) → Goes n whole → Goes n (groupStep q well whole)
+  unfolding groupStep
+  group-goes well whole g =
+      either (Goes n) well _ _
+      (λ w.
+      either (Goes n) (lastOfGroup q) whole (goesOn (oneMore q))
+      (λ e. g)
+      (λ e.
+      record { fair = record { count = fair .count; given = omega (arith, leb-false (q .count) (q .given + 1) e, fair .count); held = fair .held }; clocks = omega arith; lines = lines }))
+      (λ w. halts 12 (q .lines))
+
+  line-goes : (f : Phase) (line at rs ps os : List ℕ) → Goes n (lineLeaves f q line at rs ps os .step)
+  line-goes Head line at rs ps os = head-goes (lineOf 78 1 line)
+  line-goes Settings line at rs ps os =
+      group-goes (isWell (lineOf 65 attributeWords line)) _ (settings-go (settingsOf q (placed attributeWords q (lineOf 65 attributeWords line) at)))
+  line-goes Clocks line at rs ps os =
+      group-goes (isWell (lineOf 80 portWords line)) _ (clock-goes (clockOf q at rs (placed portWords q (lineOf 80 portWords line) ps) os))
+  line-goes Stopped line at rs ps os = record { fair = fair; clocks = omega arith; lines = lines }
+
+-- a byte takes at most one of the lines and clocks that there is room for
+pub byte-goes : (p : Play) (b n : ℕ) → Able (p .player) (suc n) → Able (byteTurn p b .play .player) n
+unfolding byteTurn
+byte-goes p b n a =
+    choose (working (p .player .phase)) _ _
+    (choose (eqb b 10) (lineTurn p) (partTurn p b)
+    (line-goes (counted (p .player)) n (record { count = a .fair .count; given = a .fair .given; held = omega arith }) (a .clocks) (omega (arith, a .lines)) (p .player .phase) _ _ _ _ _)
+    (part (eqb (p .player .held) 512) refl))
+    (record { fair = a .fair; clocks = omega (arith, a .clocks); lines = omega (arith, a .lines) })
+  where
+    choose : (t : Bool) (u v : Turn) → Able (u .play .player) n → Able (v .play .player) n → Able (cond t u v .play .player) n
+    choose true u v f g = f
+    choose false u v f g = g
+
+    part : (t : Bool) → eqb (p .player .held) 512 ≡ t → Able (partTurn p b .play .player) n
+    part true e = rw e (record { fair = record { count = a .fair .count; given = omega arith; held = omega arith }; clocks = omega (arith, a .clocks); lines = omega (arith, a .lines) })
+    part false e =
+        rw e
+        (record { fair = record { count = a .fair .count; given = a .fair .given; held = omega (arith, a .fair .held, eqb-false (p .player .held) 512 e) }; clocks = omega (arith, a .clocks); lines = omega (arith, a .lines) })

@@ -1,0 +1,13 @@
+pub mod Printing
+pub mod Groups
+pub mod Keeps
+pub mod Clocks
+pub mod Pieces
+pub mod Running
+pub mod Stored
+pub mod Calling
+pub mod Ending
+pub mod Lasting
+pub mod Whole
+pub mod Unique
+pub mod Values

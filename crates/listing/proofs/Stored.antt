@@ -1,0 +1,32 @@
+-- The player's numbers as lent words. Assumes nothing.
+use mathlib.Core.Path.{_≡_, refl}
+use mathlib.Core.List.{List, [], _∷_}
+use Prim.Native.Nat.{ℕ}
+use native.Mathlib.Omega.{arith}
+use lib.ListN.{length, set}
+use Rattle.listing.specs.declared.player.Phase.{Phase}
+use Rattle.listing.specs.declared.player.Phase.the-variants.{Head, Settings, Clocks, Stopped}
+use Rattle.listing.specs.declared.player.Player.{Player}
+use Rattle.listing.specs.Calls.{phaseNumber, phaseOf, playerNumbers, playerOf, playerWords}
+
+-- six words, each set
+pub all-six : (ws : List ℕ) → length ws ≡ 6 → (a b c d e f : ℕ)
+    → set (set (set (set (set (set ws 0 a) 1 b) 2 c) 3 d) 4 e) 5 f ≡ a ∷ b ∷ c ∷ d ∷ e ∷ f ∷ []
+all-six (u ∷ v ∷ w ∷ x ∷ y ∷ z ∷ []) h a b c d e f = refl
+all-six [] h a b c d e f = let z : ⊥ = omega arith in absurd z
+all-six (u ∷ []) h a b c d e f = let z : ⊥ = omega arith in absurd z
+all-six (u ∷ v ∷ []) h a b c d e f = let z : ⊥ = omega arith in absurd z
+all-six (u ∷ v ∷ w ∷ []) h a b c d e f = let z : ⊥ = omega arith in absurd z
+all-six (u ∷ v ∷ w ∷ x ∷ []) h a b c d e f = let z : ⊥ = omega arith in absurd z
+all-six (u ∷ v ∷ w ∷ x ∷ y ∷ []) h a b c d e f = let z : ⊥ = omega arith in absurd z
+all-six (u ∷ v ∷ w ∷ x ∷ y ∷ z ∷ t ∷ ts) h a b c d e f = let o : ⊥ = omega arith in absurd o
+
+phase-back : (f : Phase) → phaseOf (phaseNumber f) ≡ f
+phase-back Head = refl
+phase-back Settings = refl
+phase-back Clocks = refl
+phase-back Stopped = refl
+
+-- a player is the one that its words are read as
+pub player-back : (q : Player) → playerOf (playerWords q) ≡ q
+player-back q = rw (phase-back (q .phase))

@@ -1,0 +1,68 @@
+-- Facts by value about whole listings. Assumes nothing.
+use mathlib.Core.Path.{_≡_, refl}
+use mathlib.Core.List.{List, [], _∷_, _++_}
+use Prim.Native.Nat.{ℕ}
+use lib.ListN.{replicate}
+use Rattle.text.specs.Printed.{printed, decimalOf}
+use Rattle.text.specs.Numbers.{lineOf}
+use Rattle.column.specs.Column.{columnNext, columnShown, shownAt, nextAt, cascadeInto}
+use Rattle.column.specs.Refusals.{attributesAnswer, clockAnswer, settings, lengthsFit, fails, broken, exceeds}
+use Rattle.slice.specs.Legal.{offList, badInmode, badOpmode, badAlumode, badCarryinsel}
+use Rattle.slice.specs.Slice.{controlsOf, selectsOf, sliceNext, nextOf, edge, sliceOutputs, sliceCascade, outputsOfSettled, cascadeOf, sliceSettled, settledOf, resultOf, sliceOperands, operandsOf, productOf, leftOf, rightOf, adOf, aSide, dSide, pathsOf}
+use Rattle.unit.specs.Unit.{unitResult, arithmetic, logicRows, preAdder, product, load}
+use Rattle.unit.specs.Detector.{detected, unmasked}
+use Rattle.listing.specs.Steps.{headStep, groupStep, answered, endOf, outputLine}
+use Rattle.listing.specs.Listing.{clockedRegisters, clockedOutputs, byteTurn, endSays, listing}
+
+-- the lines of a listing are printed as its output is: a letter, each number after a tab, and a newline
+abbrev n-line : (count : ℕ) → List ℕ
+n-line count = printed 78 (count ∷ [])
+
+abbrev a-line : (areg : ℕ) → List ℕ
+a-line areg = printed 65 (areg ∷ replicate 20 0)
+
+abbrev p-line : (b c opmode : ℕ) → List ℕ
+p-line b c opmode = printed 80 (0 ∷ b ∷ c ∷ 0 ∷ opmode ∷ 0 ∷ 0 ∷ 0 ∷ 0 ∷ 0 ∷ 0 ∷ [])
+
+abbrev refused : (number clocks place : ℕ) → List ℕ
+refused number clocks place = printed 82 (number ∷ clocks ∷ place ∷ [])
+
+-- no text at all: a missing line is 12 at the line after the last
+no-text : listing [] ≡ refused 12 0 1
+unfolding listing endSays endOf printed decimalOf
+no-text = refl
+
+-- N 25 is 1 with place 0, as soon as it is read, whatever follows
+too-many : listing (n-line 25 ++ (88 ∷ [])) ≡ refused 1 0 0
+unfolding listing byteTurn headStep lineOf endSays endOf printed decimalOf
+too-many = refl
+
+-- N 25 without its newline is 12 at line 1
+unended : listing (78 ∷ 9 ∷ 50 ∷ 53 ∷ []) ≡ refused 12 0 1
+unfolding listing byteTurn endSays endOf printed decimalOf
+unended = refl
+
+-- no `P` lines: `E 0`, after number 3
+no-clocks : listing (n-line 1 ++ a-line 0) ≡ printed 69 (0 ∷ [])
+unfolding listing byteTurn headStep groupStep answered lineOf endSays endOf printed decimalOf attributesAnswer fails broken exceeds offList
+no-clocks = refl
+
+attribute-off-list : listing (n-line 1 ++ a-line 3) ≡ refused 3 0 0
+unfolding listing byteTurn headStep groupStep answered lineOf endSays endOf printed decimalOf attributesAnswer fails broken exceeds offList
+attribute-off-list = refl
+
+-- 01's worked example
+worked : listing (n-line 1 ++ (a-line 0 ++ p-line 5 7 15)) ≡ printed 79 (0 ∷ 0 ∷ 12 ∷ 0 ∷ 0 ∷ 0 ∷ 0 ∷ []) ++ printed 69 (1 ∷ [])
+unfolding listing byteTurn headStep groupStep answered lineOf endSays endOf printed decimalOf clockedRegisters clockedOutputs outputLine attributesAnswer clockAnswer settings lengthsFit fails broken exceeds columnNext columnShown shownAt nextAt cascadeInto offList badInmode badOpmode badAlumode badCarryinsel controlsOf selectsOf sliceNext nextOf edge load sliceOutputs sliceCascade outputsOfSettled cascadeOf sliceSettled settledOf resultOf sliceOperands operandsOf productOf leftOf rightOf adOf aSide dSide pathsOf unitResult arithmetic logicRows preAdder product detected unmasked
+worked = refl
+
+-- a forbidden OPMODE in the second clock: one clock was run
+refused-later : listing (n-line 1 ++ (a-line 0 ++ (p-line 5 7 15 ++ p-line 5 7 1)))
+    ≡ printed 79 (0 ∷ 0 ∷ 12 ∷ 0 ∷ 0 ∷ 0 ∷ 0 ∷ []) ++ refused 7 1 0
+unfolding listing byteTurn headStep groupStep answered lineOf endSays endOf printed decimalOf clockedRegisters clockedOutputs outputLine attributesAnswer clockAnswer settings lengthsFit fails broken exceeds columnNext columnShown shownAt nextAt cascadeInto offList badInmode badOpmode badAlumode badCarryinsel controlsOf selectsOf sliceNext nextOf edge load sliceOutputs sliceCascade outputsOfSettled cascadeOf sliceSettled settledOf resultOf sliceOperands operandsOf productOf leftOf rightOf adOf aSide dSide pathsOf unitResult arithmetic logicRows preAdder product detected unmasked
+refused-later = refl
+
+-- a short last clock is 12 at the line after the last
+short-clock : listing (n-line 2 ++ (a-line 0 ++ (a-line 0 ++ p-line 0 0 0))) ≡ refused 12 0 5
+unfolding listing byteTurn headStep groupStep answered lineOf endSays endOf printed decimalOf attributesAnswer fails broken exceeds offList
+short-clock = refl

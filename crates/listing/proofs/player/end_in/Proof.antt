@@ -1,0 +1,26 @@
+-- `listing::player::end_in` meets its contract: each arm is the definition's. Assumes nothing.
+use mathlib.Core.Path.{sym}
+use borrow.Author.Needs.{needs}
+use Rattle.listing.proofs.player.end_in.Statement.{statement}
+use Rattle.listing.proofs.player.end_in.Tie as tie
+
+head : tie.Need-returns
+head c = rw (c .enum-told .given .1)
+
+settings : tie.Need-returns-2
+settings c = rw (c .enum-told2 .given .1)
+
+between : tie.Need-returns-3
+between c = rw (c .before .before .before .enum-told3 .given .1, c .if1 .taken)
+
+short : tie.Need-returns-4
+short c = rw (c .before .before .before .enum-told3 .given .1, c .if1 .left)
+
+stopped : tie.Need-returns-5
+stopped c = rw (c .enum-told4 .given .1)
+
+pub end-in-spec : {M : Type 1} → statement M
+end-in-spec =
+    tie.close
+    (tie.spec (λ c. search needs) (λ c. search needs) (λ c. search needs) (λ c. search needs) (λ c. search needs) head settings between short
+    stopped)

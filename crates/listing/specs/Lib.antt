@@ -1,0 +1,4 @@
+pub mod Steps
+pub mod Listing
+pub mod Calls
+pub mod Parts

@@ -1,0 +1,74 @@
+-- What the parts of the code promise one another; no caller needs it. Assumes nothing.
+use Prim.Native.Nat.{ℕ, _+_, _*_, _-_, _^_, _≤_, _<_}
+use mathlib.Core.Path.{_≡_}
+use mathlib.Core.Bool.{cond, _&&_}
+use mathlib.Core.List.{List}
+use lib.ListN.{length}
+use Rattle.records.specs.Records.{attributeWords, registerWords, portWords, outputWords}
+use Rattle.text.specs.Numbers.{lineOf, isWell}
+use Rattle.text.specs.Printed.{pasted, Put}
+use Rattle.listing.specs.declared.player.Player.{Player}
+use Rattle.listing.specs.declared.player.Event.{Event}
+use Rattle.listing.specs.declared.player.Step.{Step}
+use Rattle.listing.specs.declared.machine.Run.{Run}
+use Rattle.listing.specs.Steps.{lastOfGroup, groupStep, settingsStep, clockStep}
+use Rattle.listing.specs.Listing.{Play, Turn, placed, settingsOf, clockOf, clockedRegisters, clockedOutputs, leaving, lineLeaves, turnOf, byteTurn}
+use Rattle.listing.specs.Calls.{Outcome, played}
+
+-- a player's numbers are in range
+pub record Fair (q : Player) : Type 0 where
+  pub count : q .count ≤ 24
+  pub given : q .given < 24
+  pub held : q .held ≤ 512
+
+-- and its counts have room for n lines and n clocks more
+pub record Able (q : Player) (n : ℕ) : Type 0 where
+  pub fair : Fair q
+  pub clocks : q .clocks + n < 18446744073709551615
+  pub lines : q .lines + n < 18446744073709551615
+
+-- it can run a clock
+pub record Clockable (q : Player) : Type 0 where
+  pub fair : Fair q
+  pub clocks : q .clocks < 18446744073709551615
+
+-- the words of 24 slices
+pub record Words (at rs ps os : List ℕ) : Type 0 where
+  pub attributes : length at ≡ attributeWords * 24
+  pub registers : length rs ≡ registerWords * 24
+  pub ports : length ps ≡ portWords * 24
+  pub outputs : length os ≡ outputWords * 24
+
+-- and the bytes of a line
+pub record Frames (at rs ps os bytes : List ℕ) : Type 0 where
+  pub words : Words at rs ps os
+  pub line : length bytes ≡ 512
+
+-- ---- what the lines leave
+
+pub record SettingsTaken (q : Player) (line at : List ℕ) (r : Step) (at′ : List ℕ) : Type 0 where
+  pub words : at′ ≡ placed attributeWords q (lineOf 65 attributeWords line) at
+  pub step : r ≡ groupStep q (isWell (lineOf 65 attributeWords line)) (settingsStep q (settingsOf q at′))
+
+pub record ClockTaken (q : Player) (at rs ps os : List ℕ) (r : Step) (rs′ os′ : List ℕ) : Type 0 where
+  pub step : r ≡ clockStep q (clockOf q at rs ps os)
+  pub registers : rs′ ≡ clockedRegisters q at rs ps os
+  pub outputs : os′ ≡ clockedOutputs q at rs ps os
+
+pub record PortsTaken (q : Player) (line at rs ps os : List ℕ) (r : Step) (rs′ ps′ os′ : List ℕ) : Type 0 where
+  pub ports : ps′ ≡ placed portWords q (lineOf 80 portWords line) ps
+  pub step : r ≡ groupStep q (isWell (lineOf 80 portWords line)) (clockStep q (clockOf q at rs ps′ os))
+  pub registers : rs′ ≡ cond (isWell (lineOf 80 portWords line) && lastOfGroup q) (clockedRegisters q at rs ps′ os) rs
+  pub outputs : os′ ≡ cond (isWell (lineOf 80 portWords line) && lastOfGroup q) (clockedOutputs q at rs ps′ os) os
+
+-- ---- what a byte and a piece leave
+
+abbrev pub playing : Player → (at rs ps os line : List ℕ) → Play
+playing q at rs ps os line = record { player = q; attributes = at; registers = rs; ports = ps; outputs = os; line = line }
+
+pub record Ran (p : Play) (piece out : List ℕ) (r : Run) (p′ : Play) (out′ : List ℕ) : Type 0 where
+  pub part : r .used ≤ length piece
+  pub room : r .made ≤ length out
+  pub used : r .used ≡ played (length out) p piece .used
+  pub play : p′ ≡ played (length out) p piece .play
+  pub says : Put 0 (played (length out) p piece .says) out (r .made) out′

@@ -1,0 +1,99 @@
+// Plays a port listing that comes in pieces of any size. All that is known between two pieces stands in lent words and bytes, which are
+// zeros to begin with. Both calls take whatever they are lent.
+ghost use mathlib.Core.Path.{_≡_};
+ghost use Rattle.listing.specs.Calls.{lending, PiecePlayed, Finished};
+
+mod lent;
+mod lines;
+mod machine;
+mod player;
+mod print;
+
+// What a piece led to: the bytes of it that were taken, the bytes that were printed, and whether there is more to play.
+pub struct Played {
+    pub used: usize,
+    pub made: usize,
+    pub goes: bool,
+}
+
+// How many words and bytes a player is lent: its numbers, the words of 24 slices, and the bytes of a line.
+pub const NUMBERS: usize = 6;
+
+pub const ATTRIBUTES: usize = 504;
+
+pub const REGISTERS: usize = 432;
+
+pub const PORTS: usize = 264;
+
+pub const OUTPUTS: usize = 120;
+
+pub const LINE: usize = 512;
+
+// Plays a piece, byte after byte, as long as `out` has room for the lines of a clock, and prints from the front of `out` on. Does nothing
+// where what is lent is no player's.
+pub fn play(
+    piece: &[u8],
+    numbers: &mut [u64],
+    attributes: &mut [u64],
+    registers: &mut [u64],
+    ports: &mut [u64],
+    outputs: &mut [u64],
+    line: &mut [u8],
+    out: &mut [u8],
+) -> Played
+    ensures { λ r.
+        ⌜ PiecePlayed (now (piece .entry)) (lending (now (numbers .entry)) (now (attributes .entry)) (now (registers .entry)) (now (ports .entry)) (now (outputs .entry)) (now (line .entry))) (now (out .entry)) r (lending (now (numbers .exit)) (now (attributes .exit)) (now (registers .exit)) (now (ports .exit)) (now (outputs .exit)) (now (line .exit))) (now (out .exit)) ⌝ }
+{
+    if !lent::fits(
+        piece.len(),
+        &numbers[..],
+        attributes.len(),
+        registers.len(),
+        ports.len(),
+        outputs.len(),
+        line.len(),
+    ) {
+        return Played {
+            used: 0,
+            made: 0,
+            goes: false,
+        };
+    }
+    let begin = lent::player_of(&numbers[..]);
+    let run = machine::run_piece(
+        begin,
+        piece,
+        attributes,
+        registers,
+        ports,
+        outputs,
+        line,
+        out,
+    );
+    let player = run.player;
+    lent::store(player, numbers);
+    let phase = player.phase;
+    Played {
+        used: run.used,
+        made: run.made,
+        goes: player::is_working(phase),
+    }
+}
+
+// The end of the input: prints `E` or what is missing from the front of `out` on, and answers how many bytes that is.
+pub fn finish(numbers: &[u64], out: &mut [u8]) -> usize
+    ensures { λ r. ⌜ Finished (now (numbers .entry)) (now (out .entry)) r (now (out .exit)) ⌝ }
+{
+    if numbers.len() != NUMBERS {
+        return 0;
+    }
+    if out.len() < 4096 {
+        return 0;
+    }
+    let player = lent::player_of(numbers);
+    if player.lines == 18446744073709551615 {
+        return 0;
+    }
+    let no_outputs = [0u64; 0];
+    print::put_event(player::end_of(player), 0, &no_outputs, out, 0)
+}

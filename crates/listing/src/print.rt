@@ -1,0 +1,52 @@
+// What there is to print of an event, as bytes.
+ghost use mathlib.Core.Path.{_≡_};
+ghost use Prim.Native.Nat.{_+_, _*_, _≤_};
+ghost use mathlib.Core.List.{_∷_};
+ghost use lib.ListN.{length};
+ghost use Rattle.records.specs.Records.{outputWords};
+ghost use Rattle.column.specs.Column.{stacked};
+ghost use Rattle.text.specs.Printed.{printed, Put};
+ghost use Rattle.listing.specs.Steps.{outputLine, bytesOf};
+use crate::player::Event;
+use column::Outputs;
+
+// The `O` line of slice k, which shows these outputs.
+fn put_slice(clock: u64, k: u64, shown: &[u64], out: &mut [u8], at: usize) -> usize
+    requires { ⌜ (length (now shown) ≡ outputWords) × (at + 168 ≤ length (now out)) ⌝ }
+    ensures { λ r. ⌜ Put at (printed 79 (clock ∷ k ∷ now (shown .entry))) (now (out .entry)) r (now (out .exit)) ⌝ }
+{
+    let numbers = [clock, k, shown[0], shown[1], shown[2], shown[3], shown[4]];
+    text::put_line(79, &numbers, out, at)
+}
+
+// The `O` lines of a clock, from slice 0 up.
+fn put_clock(clock: u64, count: usize, outputs: &[u64], out: &mut [u8], at: usize) -> usize
+    requires { ⌜ (count ≤ 24) × (outputWords * count ≤ length (now outputs)) × (at + 4096 ≤ length (now out)) ⌝ }
+    ensures { λ r. ⌜ Put at (stacked (outputLine clock (now (outputs .entry))) count) (now (out .entry)) r (now (out .exit)) ⌝ }
+{
+    let mut end = at;
+    for k in 0..count {
+        let o = Outputs::WORDS * k;
+        end = put_slice(clock, k as u64, &outputs[o..o + Outputs::WORDS], out, end);
+    }
+    end
+}
+
+// An event of a column of `count` slices, which shows these outputs.
+pub fn put_event(event: Event, count: usize, outputs: &[u64], out: &mut [u8], at: usize) -> usize
+    requires { ⌜ (count ≤ 24) × (outputWords * count ≤ length (now outputs)) × (at + 4096 ≤ length (now out)) ⌝ }
+    ensures { λ r. ⌜ Put at (bytesOf event count (now (outputs .entry))) (now (out .entry)) r (now (out .exit)) ⌝ }
+{
+    match event {
+        Event::Nothing => at,
+        Event::Clocked(clock) => put_clock(clock, count, outputs, out, at),
+        Event::Refused(number, clocks, place) => {
+            let numbers = [number, clocks, place];
+            text::put_line(82, &numbers, out, at)
+        }
+        Event::Ended(clocks) => {
+            let numbers = [clocks];
+            text::put_line(69, &numbers, out, at)
+        }
+    }
+}

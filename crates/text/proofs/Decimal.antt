@@ -1,0 +1,128 @@
+-- Laws of what is printed: its lengths, and how it is put digit by digit and field by field. Assumes nothing.
+use mathlib.Core.Path.{_≡_, refl, sym, ap}
+use mathlib.Core.List.{List, [], _∷_, _++_, append-assoc, append-nil}
+use mathlib.Core.Bool.{Bool, true, false, cond}
+use Prim.Native.Nat.{ℕ, zero, suc, _+_, _*_, _-_, _/_, _%_, _^_, _<_, _≤_}
+use native.Mathlib.Nat.{pow-suc}
+use native.Mathlib.Numerals.{add-one}
+use native.Mathlib.Omega.{arith}
+use lib.Dec.{ltb}
+use lib.Seq.{length-take-le, take-suc, take-all}
+use lib.ListN.{length, take, set, getD, length-append}
+use borrow.Author.Tests.{lt-ltb, le-ltb, le-leb, lt-leb}
+use Rattle.text.specs.Printed.{spelled, decimalOf, fieldOf, fieldsOf, printed, Put, lineWithin}
+use Rattle.text.proofs.Paste.{put-none, put-more, put-one, put-length}
+
+-- a number's last digit stands after the digits of its tenth
+spelled-enough : (f n : ℕ) → n < 10 ^ suc f → spelled (suc f) n ≡ spelled f n
+spelled-enough zero n h =
+    let l : n < 10 = h in
+    let e : n % 10 ≡ n = omega arith in
+    rw (lt-ltb n 10 l, e)
+spelled-enough (suc f) n h =
+    let l : n < 10 ^ suc f * 10 = rw (pow-suc 10 (suc f)) at h in
+    ap (λ r. cond (ltb n 10) ((48 + n) ∷ []) (r ++ ((48 + n % 10) ∷ []))) (spelled-enough f (n / 10) (omega arith))
+
+pub decimal-one : (n : ℕ) → n < 10 → decimalOf n ≡ (48 + n) ∷ []
+unfolding decimalOf
+decimal-one n h = rw (lt-ltb n 10 h)
+
+pub decimal-more : (n : ℕ) → 10 ≤ n → n < 2 ^ 64 → decimalOf n ≡ decimalOf (n / 10) ++ ((48 + n % 10) ∷ [])
+unfolding decimalOf
+decimal-more n h l = rw (le-ltb n 10 h) (ap (λ r. r ++ ((48 + n % 10) ∷ [])) (sym (spelled-enough 18 (n / 10) (omega arith))))
+
+-- lengths
+spelled-length : (f n : ℕ) → length (spelled f n) ≤ f + 1
+spelled-length zero n = omega arith
+spelled-length (suc f) n = go (ltb n 10) (spelled-length f (n / 10))
+  where
+    go : (b : Bool) → length (spelled f (n / 10)) ≤ f + 1
+        → length (cond b ((48 + n) ∷ []) (spelled f (n / 10) ++ ((48 + n % 10) ∷ []))) ≤ suc f + 1
+    go true h = omega arith
+    go false h = rw length-append (omega arith)
+
+pub decimal-length : (n : ℕ) → length (decimalOf n) ≤ 20
+unfolding decimalOf
+decimal-length n = omega (arith, spelled-length 19 n)
+
+pub field-length : (n : ℕ) → length (fieldOf n) ≤ 21
+field-length n = omega (arith, decimal-length n)
+
+pub fields-length : (ns : List ℕ) → length (fieldsOf ns) ≤ 21 * length ns
+fields-length [] = omega arith
+fields-length (n ∷ ns) = rw (length-append (fieldOf n) (fieldsOf ns)) (omega (arith, field-length n, fields-length ns))
+
+pub printed-length : (letter : ℕ) (ns : List ℕ) → length (printed letter ns) ≤ 21 * length ns + 2
+unfolding printed
+printed-length letter ns = rw (length-append (fieldsOf ns) (10 ∷ [])) (omega (arith, fields-length ns))
+
+-- a line is printed where there is room for it, and else nothing is
+module _ (letter : ℕ) (ns : List ℕ) (at : ℕ) (out : List ℕ) where
+  pub line-fits : 21 * (length ns + 1) + at ≤ length out → lineWithin letter ns at out ≡ printed letter ns
+  line-fits h = rw (le-leb (21 * (length ns + 1)) (length out - at) (omega arith))
+
+  pub line-lacks : length out - at < 21 * (length ns + 1) → lineWithin letter ns at out ≡ []
+  line-lacks h = rw (lt-leb (21 * (length ns + 1)) (length out - at) h)
+
+  pub nothing-put : length out - at < 21 * (length ns + 1) → Put at (lineWithin letter ns at out) out at out
+  nothing-put h = rw (line-lacks h) (put-none at out)
+
+-- what `decimal` leaves
+module _ (n at : ℕ) (out : List ℕ) (room : at + length (decimalOf n) ≤ length out) where
+  pub one-room : n < 10 → at < length out
+  one-room h = omega (arith, ap length (decimal-one n h))
+
+  pub one-put : n < 10 → Put at (decimalOf n) out (at + 1) (set out at (48 + n))
+  one-put h = rw (decimal-one n h) (put-one at (48 + n) out (one-room h))
+
+  module _ (more : 10 ≤ n) (small : n < 2 ^ 64) where
+    pub tenth-room : at + length (decimalOf (n / 10)) < length out
+    tenth-room = omega (arith, ap length (decimal-more n more small), length-append (decimalOf (n / 10)) ((48 + n % 10) ∷ []))
+
+    module _ (end : ℕ) (out′ : List ℕ) (p : Put at (decimalOf (n / 10)) out end out′) where
+      pub last-room : end < length out′
+      last-room = omega (arith, tenth-room, p .ends, put-length p (omega (arith, tenth-room)))
+
+      pub last-put : Put at (decimalOf n) out (end + 1) (set out′ end (48 + n % 10))
+      last-put = rw (decimal-more n more small) (put-more p (put-one end (48 + n % 10) out′ last-room) (omega (arith, tenth-room)))
+
+-- a turn of `fields`
+fields-more : (ns ms : List ℕ) → fieldsOf (ns ++ ms) ≡ fieldsOf ns ++ fieldsOf ms
+fields-more [] ms = refl
+fields-more (n ∷ ns) ms = rw (fields-more ns ms) (sym (append-assoc (fieldOf n) (fieldsOf ns) (fieldsOf ms)))
+
+fields-next : (i : ℕ) (ns : List ℕ) → i < length ns → fieldsOf (take (i + 1) ns) ≡ fieldsOf (take i ns) ++ fieldOf (getD ns i 0)
+fields-next i ns h =
+    rw (add-one, take-suc ns i 0, fields-more (take i ns) (getD ns i 0 ∷ []))
+    (ap (λ (l : List ℕ). fieldsOf (take i ns) ++ l) (append-nil (fieldOf (getD ns i 0))))
+
+module _ (i : ℕ) (ns : List ℕ) {at end : ℕ} {out₀ out : List ℕ}
+    (so-far : Put at (fieldsOf (take i ns)) out₀ end out) (least : i ≤ length ns) (room : at + 21 * length ns ≤ length out₀) where
+  so-long : at + length (fieldsOf (take i ns)) ≤ at + 21 * i
+  so-long = omega (arith, fields-length (take i ns), length-take-le i ns least)
+
+  pub kept-length : length out ≡ length out₀
+  kept-length = put-length so-far (omega (arith, so-long))
+
+  pub next-room : i < length ns → end + 21 ≤ length out
+  next-room h = omega (arith, so-long, kept-length, so-far .ends)
+
+  pub one-field : i < length ns → {r : ℕ} {out′ : List ℕ} → Put end (fieldOf (getD ns i 0)) out r out′
+      → Put at (fieldsOf (take (i + 1) ns)) out₀ r out′
+  one-field h q = rw (fields-next i ns h) (put-more so-far q (omega (arith, so-long)))
+
+  pub all-fields : length ns ≤ i → Put at (fieldsOf ns) out₀ end out
+  all-fields h = rw (take-all i ns h) at so-far
+
+-- what `line` leaves
+module _ (letter at end : ℕ) (ns out₀ out : List ℕ) (room : at + 21 * length ns + 2 ≤ length out₀)
+    (p : Put (at + 1) (fieldsOf ns) (set out₀ at letter) end out) where
+  front-put : Put at (letter ∷ fieldsOf ns) out₀ end out
+  front-put = put-more (put-one at letter out₀ (omega arith)) p (omega arith)
+
+  pub newline-room : end < length out
+  newline-room = omega (arith, p .ends, fields-length ns, put-length front-put (omega (arith, fields-length ns)))
+
+  pub whole-line : Put at (printed letter ns) out₀ (end + 1) (set out end 10)
+  unfolding printed
+  whole-line = put-more front-put (put-one end 10 out newline-room) (omega (arith, fields-length ns))

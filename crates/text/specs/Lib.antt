@@ -1,0 +1,5 @@
+pub mod Parts
+pub mod Numbers
+pub mod Printed
+pub mod Calls
+pub mod Within

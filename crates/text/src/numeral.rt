@@ -1,0 +1,75 @@
+// Numbers, each read in one pass over its bytes.
+ghost use mathlib.Core.Path.{_≡_};
+ghost use mathlib.Core.List.{[], _∷_};
+ghost use Prim.Native.Nat.{_≤_};
+ghost use lib.ListN.{length};
+ghost use Rattle.text.specs.Numbers.{digitsFrom};
+ghost use Rattle.text.specs.Within.{digitsAt, numberAt};
+use crate::Parsed;
+
+// A number and the place after it.
+pub enum Found {
+    Number(u64, usize),
+    Nothing,
+}
+
+// The number that one digit more makes.
+fn with_digit(v: u64, b: u8) -> Parsed
+    ensures { λ r. ⌜ r ≡ digitsFrom v (b ∷ []) ⌝ }
+{
+    if b < 48 {
+        return Parsed::Bad;
+    }
+    if 57 < b {
+        return Parsed::Bad;
+    }
+    let digit = (b - 48) as u64;
+    // Ten times a number up to this one is below 2^64.
+    if 1844674407370955161 < v {
+        return Parsed::Bad;
+    }
+    if 18446744073709551615 - 10 * v < digit {
+        return Parsed::Bad;
+    }
+    Parsed::Value(10 * v + digit)
+}
+
+// The number of the digits from `at` to the next tab or the end, leading zeros let in.
+fn digits(s: &[u8], at: usize) -> Found
+    requires { ⌜ at ≤ length (now s) ⌝ }
+    ensures { λ r. ⌜ r ≡ digitsAt 0 (now (s .entry)) at ⌝ }
+{
+    let mut v = 0;
+    let mut end = at;
+    while end < s.len() {
+        let b = s[end];
+        let Parsed::Value(more) = with_digit(v, b) else {
+            // Only a digit goes on, so the tab is looked for last.
+            if b == 9 {
+                return Found::Number(v, end);
+            }
+            return Found::Nothing;
+        };
+        v = more;
+        end += 1;
+    }
+    Found::Number(v, end)
+}
+
+// The number from `at` to the next tab or the end.
+pub fn number_at(s: &[u8], at: usize) -> Found
+    requires { ⌜ at ≤ length (now s) ⌝ }
+    ensures { λ r. ⌜ r ≡ numberAt (now (s .entry)) at ⌝ }
+{
+    let Found::Number(v, end) = digits(s, at) else {
+        return Found::Nothing;
+    };
+    if end == at {
+        return Found::Nothing;
+    }
+    // A leading zero is let in where it is the number.
+    if (s[at] == 48) & (at + 1 < end) {
+        return Found::Nothing;
+    }
+    Found::Number(v, end)
+}
