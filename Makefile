@@ -1,9 +1,14 @@
-# The C side: the archive with its header, the bench on it, and the comparison with the second program.
+# The C side: the archive with its header, the bench and the benchmark on it, and the comparisons with the second program.
 # Everything is built below build/. On x86-64 with the machine's compiler, elsewhere with a cross compiler and an emulator.
 PREFIX = /usr/local
 CFLAGS = -std=c99 -Wall -Wextra -pedantic -O2
 SEED = 1
 CALLS = 100000
+COUNT = 5000
+MINUTES = 60
+LINES = 10000000
+# The program that plays listings, where it has been built. On x86-64 it runs as it is, elsewhere under an emulator.
+DSPCOL = $(CURDIR)/target/bin/dspcol
 
 all: archive
 
@@ -44,13 +49,93 @@ build/calls: model/calls.c model/column.h build/libdsp48e2.a
 	scripts/x86-64 cc $(CFLAGS) -Imodel -Dcolumn_adder=dsp_adder -Dcolumn_clock=dsp_clock -Dcolumn_clear=dsp_clear \
 	    -Dcolumn_packed=dsp_packed_clocked -Dcolumn_plain=dsp_packed_plain -o $@ model/calls.c build/libdsp48e2.a
 
+build/answer: build/calls
+	printf '#!/bin/sh\nexec "%s/scripts/x86-64" run "%s/build/calls"\n' '$(CURDIR)' '$(CURDIR)' > $@
+	chmod +x $@
+
 # Swept and random calls, answered by the archive and by the second program.
-compare-calls: build/calls
-	printf '#!/bin/sh\nexec "%s/scripts/x86-64" run "%s/build/calls"\n' '$(CURDIR)' '$(CURDIR)' > build/answer
-	chmod +x build/answer
+compare-calls: build/answer
 	CALLS=build/answer compare/calls $(SEED)
+
+# Tools of this machine: they write listings, time a command, play listings, drive a program clock by clock.
+build/long-listing: bench/long-listing.c bench/scene.c bench/scene.h include/dsp48e2.h
+	mkdir -p build
+	$(CC) $(CFLAGS) -Iinclude -o $@ bench/long-listing.c bench/scene.c
+
+build/timed: bench/timed.c
+	mkdir -p build
+	$(CC) $(CFLAGS) -D_DEFAULT_SOURCE -o $@ bench/timed.c
+
+build/play: compare/play.c
+	mkdir -p build
+	$(CC) $(CFLAGS) -D_GNU_SOURCE -o $@ compare/play.c
+
+build/interactive: bench/interactive.c
+	mkdir -p build
+	$(CC) $(CFLAGS) -D_GNU_SOURCE -o $@ bench/interactive.c
+
+build/cuts: bench/cuts.c
+	mkdir -p build
+	$(CC) $(CFLAGS) -D_GNU_SOURCE -o $@ bench/cuts.c
+
+# dspcol proved and built, where its crate is and it is not.
+dspcol-built:
+	[ -x '$(DSPCOL)' ] || [ ! -d crates/dspcol ] || rt check dspcol
+
+# The plain C sides of the benchmark, compiled alike.
+build/listing: model/listing.c model/column.c model/column.h
+	mkdir -p build
+	scripts/x86-64 cc $(CFLAGS) -o $@ model/listing.c model/column.c
+
+# The same C by the kit's clang at -O3, which compiles the archive too. It has no headers of its own, and links nothing here.
+KIT_CLANG := $(shell scripts/x86-64 kit-clang)
+KIT_CC = $(KIT_CLANG) $(CFLAGS) -O3 -isystem "$$($(CC) -print-file-name=include)"
+KIT_SIDE = $(if $(KIT_CLANG),build/kit-side.o)
+
+build/kit-side.o: model/column.c model/column.h
+	mkdir -p build
+	$(KIT_CC) $(foreach name,adder check_count check_attributes clock clear packed plain,-Dcolumn_$(name)=kit_$(name)) -c -o $@ model/column.c
+
+build/listing-kit: model/listing.c model/column.c model/column.h
+	mkdir -p build
+	$(KIT_CC) -c -o build/kit-listing.o model/listing.c
+	$(KIT_CC) -c -o build/kit-column.o model/column.c
+	$(CC) -o $@ build/kit-listing.o build/kit-column.o
+
+build/benchmark: bench/benchmark.c bench/scene.c bench/scene.h model/column.c model/column.h build/libdsp48e2.a build/dsp48e2.h $(KIT_SIDE)
+	scripts/x86-64 cc $(CFLAGS) -D_DEFAULT_SOURCE $(if $(KIT_SIDE),-DKIT_SIDE) -Ibuild -Imodel -o $@ bench/benchmark.c bench/scene.c \
+	    model/column.c $(KIT_SIDE) build/libdsp48e2.a
+
+# The archive and dspcol against plain C; writes docs/BENCHMARKS.md and docs/cost.svg.
+benchmark: build/benchmark build/listing $(if $(KIT_CLANG),build/listing-kit) build/long-listing build/timed dspcol-built
+	DSPCOL='$(DSPCOL)' scripts/benchmark
+
+# LINES lines through dspcol, and its peak memory; adds them to docs/BENCHMARKS.md.
+soak: build/long-listing build/timed dspcol-built
+	DSPCOL='$(DSPCOL)' scripts/soak $(LINES)
+
+# COUNT random listings and all swept ones, played by dspcol and by the second program.
+compare: dspcol-built
+	DSPCOL='$(DSPCOL)' compare/run $(SEED) $(COUNT)
+
+# Listings and calls, seed after seed.
+compare-long: build/answer dspcol-built
+	DSPCOL='$(DSPCOL)' CALLS=build/answer compare/long $(MINUTES)
+
+# Each slip of the old model, planted in a copy of the product: the comparison must find it.
+planted:
+	scripts/planted
+
+# dspcol driven clock by clock, and its failed reads and writes.
+interactive: build/interactive build/long-listing dspcol-built
+	DSPCOL='$(DSPCOL)' scripts/interactive
+
+# Listings cut in two at every byte, and one whose output is longer than any buffer.
+cuts: build/cuts dspcol-built
+	DSPCOL='$(DSPCOL)' scripts/cuts
+	DSPCOL='$(DSPCOL)' scripts/long-output
 
 clean:
 	rm -rf build
 
-.PHONY: all archive install header bench compare-calls clean
+.PHONY: all archive install header bench dspcol-built benchmark soak compare compare-calls compare-long planted interactive cuts clean

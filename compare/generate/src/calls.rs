@@ -283,7 +283,7 @@ impl Packed {
     /// Writes the clocked run and the plain one of the same stretches.
     fn write(&self, out: &mut impl Write) -> io::Result<()> {
         let Packed { terms, rows, triples, answers, list } = self;
-        let [a, d, b] = triples.each_ref().map(|array| stretch(array));
+        let [a, d, b] = [0, 1, 2].map(|i: usize| stretch(&triples[i]));
         let answers = stretch(answers);
         writeln!(out, "packed {terms} {rows} {a} {d} {b} {answers} {}", stretch(list))?;
         writeln!(out, "plain {terms} {rows} {a} {d} {b} {answers}")

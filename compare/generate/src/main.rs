@@ -48,7 +48,7 @@ fn listings(seed: u64, count: u64, directory: &Path) -> io::Result<()> {
 }
 
 fn run(arguments: &[&str]) -> io::Result<bool> {
-    let number = |text: &str| text.parse().map_err(|_| io::Error::other(USAGE));
+    let number = |text: &str| text.parse().map_err(|_| io::Error::new(io::ErrorKind::Other, USAGE));
     match arguments {
         ["listings", seed, count, directory] => {
             listings(number(seed)?, number(count)?, Path::new(directory)).map(|()| true)
@@ -60,7 +60,7 @@ fn run(arguments: &[&str]) -> io::Result<bool> {
         }
         ["tally-calls", calls, answers] => tally_calls::tally(Path::new(calls), Path::new(answers)),
         ["tally", directory, answers] => tally::tally(Path::new(directory), Path::new(answers)),
-        _ => Err(io::Error::other(USAGE)),
+        _ => Err(io::Error::new(io::ErrorKind::Other, USAGE)),
     }
 }
 

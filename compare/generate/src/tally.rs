@@ -90,10 +90,13 @@ impl Tally {
     ) {
         self.listings += 1;
         let last = answer.lines().last().unwrap_or("").replace('\t', " ");
-        let Some(clocks) = self.ending(&last) else {
-            println!("listing {name}: the answer has no end: {last:?}");
-            self.unexpected += 1;
-            return;
+        let clocks = match self.ending(&last) {
+            Some(clocks) => clocks,
+            None => {
+                println!("listing {name}: the answer has no end: {last:?}");
+                self.unexpected += 1;
+                return;
+            }
         };
         let (table, aims) = (&mut self.table, self.aims);
         let items = &mut self.aim_items;
