@@ -107,7 +107,7 @@ module _ (at rs ps : List ℕ) (k : ℕ) where
       number-setting (faulty Attribute at rs ps k) (faulty Inmode at rs ps k) (faulty Opmode at rs ps k) (faulty Alumode at rs ps k)
       (faulty Carryinsel at rs ps k)
 
-  fault-below : (check : Check) → checkNumber check < fault → faulty check at rs ps k ≡ false
+  pub fault-below : (check : Check) → checkNumber check < fault → faulty check at rs ps k ≡ false
   unfolding faulty
   fault-below =
       let f : (i : ℕ) → i < 7 → 3 + i < fault → tests i ≡ false = λ i l h. below-place tests i l (omega (arith, fault-place)) in

@@ -4,6 +4,7 @@ pub mod Answers
 pub mod Faults
 pub mod Edges
 pub mod Fits
+pub mod Passing
 pub mod Before
 pub mod Unique
 pub mod Values

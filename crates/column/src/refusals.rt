@@ -1,11 +1,13 @@
 // The refusals: which checks a slice fails, the lowest slice that fails one, and the checks in their order. Nothing is stored.
 ghost use mathlib.Core.Path.{_≡_};
+ghost use mathlib.Core.Bool.{true};
 ghost use mathlib.Core.List.{[]};
 ghost use Prim.Native.Nat.{_≤_, _*_};
 ghost use lib.Dec.{T};
 ghost use lib.ListN.{length};
 ghost use Rattle.records.specs.Records.{attributeWords};
 ghost use Rattle.column.specs.declared.Check.the-variants.{Attribute};
+ghost use Rattle.column.specs.declared.Answer.the-variants.{Accepted};
 ghost use Rattle.column.specs.Refusals.{checkNumber, lowest, refuse, settings, countFits, lengthsFit, clockAnswer, clearAnswer, attributesAnswer};
 ghost use Rattle.column.specs.Parts.{Lengths, Table, over, earlierOf, faulty, FirstFault, offListOf, judgedBy};
 use crate::Answer;
@@ -146,6 +148,24 @@ fn refuse(check: Check, found: Found, next: Answer) -> Answer
     }
 }
 
+// One pass tells that a column breaks none of the checks 3 to 9, as most break none.
+fn all_sound(count: usize, attributes: &[u64], registers: &[u64], ports: &[u64]) -> bool
+    requires { ⌜ (count ≤ 24) × Lengths count (now attributes) (now registers) (now ports) ⌝ }
+    ensures { λ r.
+        ⌜ (r ≡ true → settings count (now (attributes .entry)) (now (registers .entry)) (now (ports .entry)) ≡ Accepted) ⌝ }
+{
+    for k in 0..count {
+        if !slice::is_sound(
+            attributes_at(attributes, k),
+            registers_at(registers, k),
+            ports_at(ports, k),
+        ) {
+            return false;
+        }
+    }
+    true
+}
+
 // Checks 3 to 9, in their order.
 fn settings_answer(count: usize, attributes: &[u64], registers: &[u64], ports: &[u64]) -> Answer
     requires { ⌜ (count ≤ 24) × Lengths count (now attributes) (now registers) (now ports) ⌝ }
@@ -202,6 +222,9 @@ pub fn clock_answer(
     }
     if !lengths_fit(count, attributes, registers, ports, outputs) {
         return Answer::BadLength;
+    }
+    if all_sound(count, attributes, registers, ports) {
+        return Answer::Accepted;
     }
     settings_answer(count, attributes, registers, ports)
 }

@@ -1,21 +1,19 @@
 -- What `play` leaves, from its test and its run. Assumes nothing.
-use mathlib.Core.Path.{_≡_, refl, sym, ap, _∙_, subst}
-use mathlib.Core.Bool.{Bool, true, false, cond, _&&_}
+use mathlib.Core.Path.{_≡_, ap, _∙_, subst}
+use mathlib.Core.Bool.{Bool, true, false, _&&_}
 use mathlib.Core.List.{List}
-use Prim.Native.Nat.{ℕ, _+_, _*_, _-_, _<_, _≤_}
+use Prim.Native.Nat.{ℕ, _*_, _-_}
 use native.Mathlib.Omega.{arith}
 use lib.Dec.{eqb, leb, ltb}
 use lib.ListN.{length}
 use borrow.Author.Tests.{eqb-true, leb-true, ltb-true}
 use Rattle.records.specs.Records.{attributeWords, registerWords, portWords, outputWords}
-use Rattle.text.specs.Printed.{Put}
 use Rattle.text.proofs.Paste.{put-none}
 use Rattle.listing.specs.declared.player.Player.{Player}
 use Rattle.listing.specs.declared.machine.Run.{Run}
-use Rattle.listing.specs.declared.Played.{Played}
 use Rattle.listing.specs.Listing.{mostSlices, mostBytes, Play, working}
-use Rattle.listing.specs.Calls.{playerNumbers, playerOf, playerWords, Lent, lending, playOf, lentOf, lengthsFit, numbersFit, fitsBy, fits, played, lentAfter, goesAfter, outcomeOf, PiecePlayed}
-use Rattle.listing.specs.Parts.{Fair, Able, Words, Frames, playing, Ran}
+use Rattle.listing.specs.Calls.{playerNumbers, playerOf, playerWords, Lent, lending, playOf, lentOf, lengthsFit, numbersFit, fitsBy, fits, lentAfter, goesAfter, outcomeOf, PiecePlayed}
+use Rattle.listing.specs.Parts.{Able, Frames, playing, Ran}
 use Rattle.listing.proofs.Keeps.{both-true}
 
 -- ---- what is lent is a player's

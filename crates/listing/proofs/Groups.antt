@@ -1,6 +1,6 @@
 -- The lines of a group, one a slice: malformed, one of them, the last of them; and the words that they leave. Assumes nothing.
-use mathlib.Core.Path.{_≡_, refl, sym, ap, ap₂, _∙_}
-use mathlib.Core.Bool.{Bool, true, false, cond, _&&_}
+use mathlib.Core.Path.{_≡_, sym, ap, ap₂, _∙_}
+use mathlib.Core.Bool.{Bool, true, false}
 use mathlib.Core.List.{List, _++_}
 use Prim.Native.Nat.{ℕ, _+_, _*_, _-_, _<_, _≤_}
 use native.Mathlib.Nat.{mul-suc, mul-le-mul-left}
@@ -19,7 +19,7 @@ use Rattle.listing.specs.declared.player.Phase.{Phase}
 use Rattle.listing.specs.declared.player.Phase.the-variants.{Settings, Clocks}
 use Rattle.listing.specs.declared.player.Player.{Player}
 use Rattle.listing.specs.declared.player.Step.{Step}
-use Rattle.listing.specs.Steps.{oneMore, goesOn, refusal, lastOfGroup, groupStep, settingsStep, clockStep}
+use Rattle.listing.specs.Steps.{oneMore, goesOn, refusal, groupStep, settingsStep, clockStep}
 use Rattle.listing.specs.Listing.{Left, leaving, settingsOf, clockOf, lineLeaves, portsLeave}
 use Rattle.listing.specs.Parts.{SettingsTaken, PortsTaken}
 

@@ -1,11 +1,11 @@
 -- What a player's numbers keep to, from byte to byte. Assumes nothing.
-use mathlib.Core.Path.{_≡_, refl, sym, ap, _∙_, subst}
+use mathlib.Core.Path.{_≡_, refl}
 use mathlib.Core.Bool.{Bool, true, false, cond, _&&_}
 use mathlib.Core.List.{List, [], _∷_, _++_}
-use Prim.Native.Nat.{ℕ, zero, suc, _+_, _*_, _-_, _<_, _≤_}
+use Prim.Native.Nat.{ℕ, suc, _+_, _<_}
 use native.Mathlib.Omega.{arith}
 use lib.Dec.{leb, eqb}
-use lib.ListN.{length, take, getD}
+use lib.ListN.{getD}
 use borrow.Author.Tests.{leb-true, leb-false, eqb-false}
 use Rattle.column.specs.declared.Answer.{Answer}
 use Rattle.column.specs.Refusals.{numberOf, placeOf, countFits}
@@ -15,8 +15,8 @@ use Rattle.listing.specs.declared.player.Phase.{Phase}
 use Rattle.listing.specs.declared.player.Phase.the-variants.{Head, Settings, Clocks, Stopped}
 use Rattle.listing.specs.declared.player.Player.{Player}
 use Rattle.listing.specs.declared.player.Step.{Step}
-use Rattle.listing.specs.Steps.{counted, longer, oneMore, named, clocking, clockRun, halted, goesOn, refusal, lastOfGroup, answered, headStep, groupStep, settingsStep, clockStep}
-use Rattle.listing.specs.Listing.{Play, Turn, Left, turnOf, working, lineTurn, partTurn, lineLeaves, byteTurn, settingsOf, clockOf, placed, stepping}
+use Rattle.listing.specs.Steps.{counted, oneMore, named, goesOn, refusal, lastOfGroup, answered, headStep, groupStep, settingsStep, clockStep}
+use Rattle.listing.specs.Listing.{Play, Turn, working, lineTurn, partTurn, lineLeaves, byteTurn, settingsOf, clockOf, placed}
 use Rattle.listing.specs.Parts.{Fair, Able}
 
 -- what holds of both ways of a test holds of the step

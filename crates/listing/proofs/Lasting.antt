@@ -1,9 +1,8 @@
 -- What is lent stays a player's, from byte to byte. Assumes nothing.
-use mathlib.Core.Path.{_≡_, refl, sym, ap, _∙_, subst}
+use mathlib.Core.Path.{_≡_, refl, _∙_}
 use mathlib.Core.Bool.{Bool, true, false, cond, _&&_}
 use mathlib.Core.List.{List, [], _∷_, _++_}
-use Prim.Native.Nat.{ℕ, zero, suc, _+_, _*_, _-_, _<_, _≤_}
-use native.Mathlib.Nat.{mul-le-mul-left}
+use Prim.Native.Nat.{ℕ, zero, suc, _*_, _-_, _<_, _≤_}
 use native.Mathlib.Numerals.{unary-clauses}
 use native.Mathlib.Omega.{arith}
 use lib.Dec.{leb, eqb}
@@ -24,8 +23,8 @@ use Rattle.listing.specs.declared.player.Phase.{Phase}
 use Rattle.listing.specs.declared.player.Phase.the-variants.{Head, Settings, Clocks, Stopped}
 use Rattle.listing.specs.declared.player.Player.{Player}
 use Rattle.listing.specs.Steps.{counted, lastOfGroup}
-use Rattle.listing.specs.Listing.{mostBytes, Play, Turn, Left, turnOf, placed, clockOf, clockedRegisters, clockedOutputs, lineLeaves, lineTurn, partTurn, working, byteTurn, start}
-use Rattle.listing.specs.Calls.{Lent, playerOf, playerWords, playOf, lentOf, fitsBy, fits, clockRoom, Outcome, nothing, further, played}
+use Rattle.listing.specs.Listing.{mostBytes, Play, Turn, Left, placed, clockOf, clockedRegisters, clockedOutputs, lineLeaves, lineTurn, partTurn, working, byteTurn, start}
+use Rattle.listing.specs.Calls.{playOf, lentOf, fitsBy, fits, clockRoom, nothing, further, played}
 use Rattle.listing.specs.Parts.{Fair, Able, Words, Frames}
 use Rattle.listing.proofs.Groups.{stretch-room}
 use Rattle.listing.proofs.Keeps.{byte-goes}

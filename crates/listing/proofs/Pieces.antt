@@ -1,14 +1,12 @@
 -- A piece that is played byte after byte: the outcome so far, and what the rest leads to. Assumes nothing.
 use mathlib.Core.Path.{_≡_, refl, sym, ap, ap₂, _∙_}
-use mathlib.Core.Bool.{Bool, true, false, cond}
 use mathlib.Core.List.{List, [], _∷_, _++_, append-assoc, append-nil}
-use Prim.Native.Nat.{ℕ, zero, suc, _+_, _*_, _-_, _<_, _≤_}
-use native.Mathlib.Nat.{add-zero, add-assoc, zero-add}
+use Prim.Native.Nat.{ℕ, suc, _+_, _-_, _<_, _≤_}
+use native.Mathlib.Nat.{add-zero, zero-add}
 use native.Mathlib.Numerals.{add-one, unary-clauses}
 use native.Mathlib.Omega.{arith}
-use lib.Dec.{leb}
-use lib.ListN.{length, take, drop, getD, length-append, length-take, length-drop, take-append-drop}
-use lib.Seq.{drop-cons, drop-length, drop-drop, take-at, drop-append-add, length-take-le, take-all}
+use lib.ListN.{length, take, drop, getD, length-append, length-take, take-append-drop}
+use lib.Seq.{drop-cons, drop-length, drop-drop, take-at, drop-append-add, length-take-le}
 use borrow.Author.Tests.{le-leb, lt-leb}
 use Rattle.text.specs.Printed.{pasted, Put}
 use Rattle.listing.specs.Listing.{Play, Turn, byteTurn}

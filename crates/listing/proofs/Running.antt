@@ -2,7 +2,7 @@
 use mathlib.Core.Path.{_≡_, refl, sym, ap, _∙_, subst}
 use mathlib.Core.Bool.{Bool, true, false, _&&_}
 use mathlib.Core.List.{List}
-use Prim.Native.Nat.{ℕ, suc, _+_, _-_, _<_, _≤_}
+use Prim.Native.Nat.{ℕ, _+_, _-_, _<_, _≤_}
 use native.Mathlib.Omega.{arith}
 use lib.Dec.{leb, ltb}
 use lib.ListN.{length, take, getD}
@@ -10,11 +10,10 @@ use borrow.Author.Tests.{ltb-false, leb-false, ltb-true, leb-true}
 use Rattle.text.specs.Printed.{Put}
 use Rattle.listing.specs.declared.player.Player.{Player}
 use Rattle.listing.specs.declared.player.Step.{Step}
-use Rattle.listing.specs.declared.machine.Run.{Run}
 use Rattle.listing.specs.Steps.{bytesOf}
 use Rattle.listing.specs.Listing.{Play, Turn, leaving, turnOf, byteTurn}
 use Rattle.listing.specs.Calls.{Outcome, clockRoom, played}
-use Rattle.listing.specs.Parts.{Fair, Able, Words, Frames, playing, Ran}
+use Rattle.listing.specs.Parts.{Able, Frames, playing, Ran}
 use Rattle.listing.proofs.Printing.{event-length}
 use Rattle.listing.proofs.Keeps.{both-true, byte-goes}
 use Rattle.listing.proofs.Pieces.{SoFar, one-byte, all-taken, no-room, printed-so-far}

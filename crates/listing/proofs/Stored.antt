@@ -7,7 +7,7 @@ use lib.ListN.{length, set}
 use Rattle.listing.specs.declared.player.Phase.{Phase}
 use Rattle.listing.specs.declared.player.Phase.the-variants.{Head, Settings, Clocks, Stopped}
 use Rattle.listing.specs.declared.player.Player.{Player}
-use Rattle.listing.specs.Calls.{phaseNumber, phaseOf, playerNumbers, playerOf, playerWords}
+use Rattle.listing.specs.Calls.{phaseNumber, phaseOf, playerOf, playerWords}
 
 -- six words, each set
 pub all-six : (ws : List ℕ) → length ws ≡ 6 → (a b c d e f : ℕ)

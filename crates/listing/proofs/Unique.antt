@@ -1,8 +1,6 @@
 -- No second outcome fits the contract that a public call carries: of one call, two answers and two contents of what is lent that both
 -- meet its `ensures` (`Post`, as rattle reads it from the source) are equal. Assumes nothing.
-use mathlib.Core.Path.{_≡_, ap}
-use mathlib.Core.List.{List}
-use Prim.Native.Nat.{ℕ}
+use mathlib.Core.Path.{_≡_}
 use contract.Lifetimes.{Lfts}
 use denote.Ref.{now}
 use denote.Triple.Clauses.{AtExit}

@@ -2,7 +2,7 @@
 use mathlib.Core.Path.{_≡_, refl, sym, ap, ap₂, _∙_, subst}
 use mathlib.Core.Bool.{Bool, true, false, cond}
 use mathlib.Core.List.{List, [], _∷_, _++_, append-assoc}
-use Prim.Native.Nat.{ℕ, zero, suc, _+_, _-_, _<_, _≤_}
+use Prim.Native.Nat.{ℕ, _+_, _-_, _<_, _≤_}
 use native.Mathlib.Nat.{zero-add}
 use native.Mathlib.Omega.{arith}
 use lib.Dec.{leb}
@@ -11,8 +11,8 @@ use lib.Seq.{take-at}
 use borrow.Author.Tests.{le-leb, lt-ltb}
 use Rattle.text.specs.Printed.{Put}
 use Rattle.listing.specs.declared.Played.{Played}
-use Rattle.listing.specs.Listing.{Play, Turn, byteTurn, start, endSays, listingFrom, listing}
-use Rattle.listing.specs.Calls.{Lent, lentOf, Outcome, nothing, further, clockRoom, played, lentAfter, outcomeOf, PiecePlayed, endBytes, Finished}
+use Rattle.listing.specs.Listing.{Play, byteTurn, start, endSays, listingFrom, listing}
+use Rattle.listing.specs.Calls.{Lent, lentOf, nothing, further, clockRoom, played, lentAfter, outcomeOf, PiecePlayed, endBytes, Finished}
 use Rattle.listing.specs.Parts.{Able}
 use Rattle.listing.proofs.Stored.{player-back}
 use Rattle.listing.proofs.Lasting.{Good, piece-lasts, lent-back, good-fits, start-good}

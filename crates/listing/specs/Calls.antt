@@ -6,7 +6,7 @@ use mathlib.Core.List.{List, [], _∷_, _++_}
 use lib.Dec.{eqb, leb, ltb}
 use lib.ListN.{length, getD}
 use Rattle.records.specs.Records.{attributeWords, registerWords, portWords, outputWords}
-use Rattle.text.specs.Printed.{pasted, Put}
+use Rattle.text.specs.Printed.{Put}
 use Rattle.listing.specs.declared.player.Phase.{Phase}
 use Rattle.listing.specs.declared.player.Phase.the-variants.{Head, Settings, Clocks, Stopped}
 use Rattle.listing.specs.declared.player.Player.{Player}

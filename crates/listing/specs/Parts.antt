@@ -1,19 +1,18 @@
 -- What the parts of the code promise one another; no caller needs it. Assumes nothing.
-use Prim.Native.Nat.{ℕ, _+_, _*_, _-_, _^_, _≤_, _<_}
+use Prim.Native.Nat.{ℕ, _+_, _*_, _≤_, _<_}
 use mathlib.Core.Path.{_≡_}
 use mathlib.Core.Bool.{cond, _&&_}
 use mathlib.Core.List.{List}
 use lib.ListN.{length}
 use Rattle.records.specs.Records.{attributeWords, registerWords, portWords, outputWords}
 use Rattle.text.specs.Numbers.{lineOf, isWell}
-use Rattle.text.specs.Printed.{pasted, Put}
+use Rattle.text.specs.Printed.{Put}
 use Rattle.listing.specs.declared.player.Player.{Player}
-use Rattle.listing.specs.declared.player.Event.{Event}
 use Rattle.listing.specs.declared.player.Step.{Step}
 use Rattle.listing.specs.declared.machine.Run.{Run}
 use Rattle.listing.specs.Steps.{lastOfGroup, groupStep, settingsStep, clockStep}
-use Rattle.listing.specs.Listing.{Play, Turn, placed, settingsOf, clockOf, clockedRegisters, clockedOutputs, leaving, lineLeaves, turnOf, byteTurn}
-use Rattle.listing.specs.Calls.{Outcome, played}
+use Rattle.listing.specs.Listing.{Play, placed, settingsOf, clockOf, clockedRegisters, clockedOutputs}
+use Rattle.listing.specs.Calls.{played}
 
 -- a player's numbers are in range
 pub record Fair (q : Player) : Type 0 where

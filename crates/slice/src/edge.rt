@@ -138,6 +138,7 @@ fn next_all(a: Attributes, r: Registers, p: Ports, s: Paths, t: Settled) -> Regi
     }
 }
 
+// The call of `next` stands twice, so that one of them is compiled without resets.
 fn loaded(a: Attributes, r: Registers, p: Ports, s: Paths, t: Settled) -> Registers
     ensures { λ n. ⌜ n ≡ nextOf a r p s t ⌝ }
 {
@@ -145,6 +146,7 @@ fn loaded(a: Attributes, r: Registers, p: Ports, s: Paths, t: Settled) -> Regist
         if p.ce == 8191 {
             return next_all(a, r, p, s, t);
         }
+        return next(a, r, p, s, t);
     }
     next(a, r, p, s, t)
 }

@@ -6,8 +6,10 @@ mod inputs;
 mod legal;
 mod multiplier;
 mod operands;
+mod sound;
 
 pub use edge::Step;
 pub use edge::stepped;
 pub use inputs::Cascade;
 pub use legal::fault_of;
+pub use sound::is_sound;

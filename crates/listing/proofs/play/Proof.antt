@@ -5,7 +5,7 @@ use borrow.Author.Tests.{not-true, not-false}
 use Rattle.listing.specs.declared.player.Player.{Player}
 use Rattle.listing.specs.Calls.{lending}
 use Rattle.listing.specs.Parts.{Able}
-use Rattle.listing.proofs.Calling.{Fit, fits-true, not-played, piece-played}
+use Rattle.listing.proofs.Calling.{fits-true, not-played, piece-played}
 use borrow.Author.Needs.{needs}
 use Rattle.listing.proofs.play.Statement.{statement}
 use Rattle.listing.proofs.play.Tie as tie

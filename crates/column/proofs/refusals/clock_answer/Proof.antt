@@ -1,7 +1,8 @@
 -- `column::refusals::clock_answer` meets its contract: its tests are the definition's, in their order. Assumes nothing.
-use mathlib.Core.Path.{_∙_, sym}
+use mathlib.Core.Path.{_≡_, _∙_, sym}
 use Prim.Native.Nat.{_≤_}
-use Rattle.column.specs.Refusals.{clockAnswer}
+use Rattle.column.specs.Refusals.{settings, clockAnswer}
+use Rattle.column.specs.Parts.{Lengths}
 use Rattle.column.proofs.Search.{few}
 use Rattle.column.proofs.Answers.{right-lengths}
 use borrow.Author.Needs.{needs}
@@ -28,20 +29,38 @@ returns-2 c =
       sym (c .before .lengths-fit .ensures) ∙ not-true _ (c .if2 .taken),
     )
 
-settings-answer-requires : tie.Need-settings-answer-requires
-settings-answer-requires c κs =
+-- past the second the lengths are right
+lengths : (c : tie.Else2) →
+    let x = c .before .before .before .before .before .before .before .before .args in
+    (x .count ≤ 24) × Lengths (x .count) (x .attributes .now) (x .registers .now) (x .ports .now)
+lengths c =
     (at-most (c .before .before), right-lengths _ _ _ _ _ (sym (c .before .lengths-fit .ensures) ∙ not-false _ (c .if2 .left)) .0)
 
-returns-3 : tie.Need-returns-3
+-- and the answer is the settings'
+settled : (c : tie.Else2) →
+    let x = c .before .before .before .before .before .before .before .before .args in
+    clockAnswer (x .count) (x .attributes .now) (x .registers .now) (x .ports .now) (x .outputs .now)
+    ≡ settings (x .count) (x .attributes .now) (x .registers .now) (x .ports .now)
 unfolding clockAnswer
-returns-3 c =
+settled c =
     rw (
-      sym (c .before .before .before .before .count-fits .ensures) ∙ not-false _ (c .before .before .before .if1 .left),
-      sym (c .before .before .lengths-fit .ensures) ∙ not-false _ (c .before .if2 .left),
+      sym (c .before .before .before .count-fits .ensures) ∙ not-false _ (c .before .before .if1 .left),
+      sym (c .before .lengths-fit .ensures) ∙ not-false _ (c .if2 .left),
     )
-    (c .settings-answer .ensures)
+
+all-sound-requires : tie.Need-all-sound-requires
+all-sound-requires c κs = lengths c
+
+returns-3 : tie.Need-returns-3
+returns-3 c = sym (settled (c .before .before) ∙ c .before .all-sound .ensures (c .if3 .taken))
+
+settings-answer-requires : tie.Need-settings-answer-requires
+settings-answer-requires c κs = lengths (c .before .before)
+
+returns-4 : tie.Need-returns-4
+returns-4 c = c .settings-answer .ensures ∙ sym (settled (c .before .before .before))
 
 pub clock-answer-spec : {M : Type 1} → statement M
 clock-answer-spec =
     tie.close
-    (tie.spec (λ c κs. search needs) returns lengths-fit-requires returns-2 settings-answer-requires returns-3)
+    (tie.spec (λ c κs. search needs) returns lengths-fit-requires returns-2 all-sound-requires returns-3 settings-answer-requires returns-4)

@@ -1,5 +1,4 @@
 -- `listing::lent::player_of` meets its contract: word by word. Assumes nothing.
-use mathlib.Core.Path.{ap}
 use borrow.Author.Needs.{needs}
 use Rattle.listing.proofs.lent.player_of.Statement.{statement}
 use Rattle.listing.proofs.lent.player_of.Tie as tie

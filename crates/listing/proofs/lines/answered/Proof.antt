@@ -1,5 +1,4 @@
 -- `listing::lines::answered` meets its contract: the test is the definition's. Assumes nothing.
-use mathlib.Core.Path.{_∙_, sym}
 use borrow.Author.Tests.{eq-eqb, ne-eqb}
 use Rattle.listing.specs.Steps.{answered}
 use borrow.Author.Needs.{needs}

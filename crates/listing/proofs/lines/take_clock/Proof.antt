@@ -4,7 +4,6 @@ use native.Mathlib.Omega.{arith}
 use lib.ListN.{length-take}
 use Rattle.listing.specs.declared.player.Player.{Player}
 use Rattle.listing.specs.declared.player.Event.the-variants.{Clocked}
-use Rattle.listing.specs.declared.player.Step.{Step}
 use Rattle.listing.specs.Steps.{answered}
 use Rattle.listing.proofs.Clocks.{registers-left, outputs-left}
 use borrow.Author.Needs.{needs}

@@ -1,12 +1,11 @@
 -- `listing::machine::run_piece` meets its contract: byte after byte, as long as there is room. Assumes nothing.
-use Prim.Native.Nat.{_≤_, _<_, _+_, _-_}
-use mathlib.Core.Path.{_≡_, _∙_, sym, ap}
+use Prim.Native.Nat.{_-_}
+use mathlib.Core.Path.{_∙_, sym}
 use native.Mathlib.Omega.{arith}
-use lib.ListN.{length, getD}
+use lib.ListN.{length}
 use Rattle.listing.specs.Parts.{Able, Frames, playing}
 use Rattle.listing.proofs.Pieces.{SoFar, none-yet}
 use Rattle.listing.proofs.Running.{loop-goes, frames-kept, able-one, next-able, next-so-far, all-ran}
-use borrow.Author.Needs.{needs}
 use Rattle.listing.proofs.machine.run_piece.Statement.{statement}
 use Rattle.listing.proofs.machine.run_piece.Tie as tie
 

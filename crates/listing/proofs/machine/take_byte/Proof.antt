@@ -1,6 +1,5 @@
 -- `listing::machine::take_byte` meets its contract: the tests are the definition's. Assumes nothing.
 use mathlib.Core.Path.{_∙_, sym, ap}
-use Prim.Native.Nat.{_+_}
 use lib.ListN.{take}
 use native.Mathlib.Omega.{arith}
 use lib.ListN.{length-take}

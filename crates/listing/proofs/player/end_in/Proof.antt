@@ -1,5 +1,4 @@
 -- `listing::player::end_in` meets its contract: each arm is the definition's. Assumes nothing.
-use mathlib.Core.Path.{sym}
 use borrow.Author.Needs.{needs}
 use Rattle.listing.proofs.player.end_in.Statement.{statement}
 use Rattle.listing.proofs.player.end_in.Tie as tie

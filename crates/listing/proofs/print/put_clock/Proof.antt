@@ -1,10 +1,6 @@
 -- `listing::print::put_clock` meets its contract: a line for each slice, from slice 0 up. Assumes nothing.
-use Prim.Native.Nat.{_≤_, _<_, _+_, _-_, _*_}
-use mathlib.Core.Path.{_≡_, _∙_, sym}
-use native.Mathlib.Numerals.{add-one}
+use Prim.Native.Nat.{_≤_, _-_}
 use native.Mathlib.Omega.{arith}
-use lib.ListN.{length}
-use Rattle.records.specs.Records.{outputWords}
 use Rattle.column.specs.Column.{stacked}
 use Rattle.text.specs.Printed.{Put}
 use Rattle.text.proofs.Paste.{put-none}
