@@ -121,6 +121,11 @@ static void lengths(void)
             fill(lents[i], 0, 0);
             expect_refusal(clock_of(2), DSP_BAD_LENGTH, 0, "a length of 0");
         }
+    for (unsigned count = 1; count <= DSP_MOST_SLICES; count++) {
+        cleared_column(count);
+        fill(&attributes, count * DSP_ATTRIBUTE_USE_SIMD, 0);
+        expect_refusal(clock_of(count), DSP_BAD_LENGTH, 0, "21 attributes a slice");
+    }
 }
 
 /* Every word of every slice at its limit and one past it. */
@@ -151,6 +156,24 @@ static void forbidden(void)
         }
 }
 
+/* Settings of USE_SIMD that are none, and those that a slice which multiplies may not have. */
+static void forbidden_lanes(void)
+{
+    static const struct { uint64_t use_simd, use_mult; } settings[] = {
+        { 3, 0 }, { 4, 0 }, { UINT64_MAX, 0 }, { 3, 1 }, { DSP_SIMD_TWO24, 1 }, { DSP_SIMD_FOUR12, 1 },
+    };
+    for (unsigned k = 0; k < DSP_MOST_SLICES; k++)
+        for (unsigned i = 0; i < sizeof settings / sizeof settings[0]; i++) {
+            cleared_column(DSP_MOST_SLICES);
+            DSP_WORD(lend(&attributes), DSP_ATTRIBUTE_WORDS, k, DSP_ATTRIBUTE_USE_SIMD) = settings[i].use_simd;
+            DSP_WORD(lend(&attributes), DSP_ATTRIBUTE_WORDS, k, DSP_ATTRIBUTE_USE_MULT) = settings[i].use_mult;
+            DSP_WORD(lend(&attributes), DSP_ATTRIBUTE_WORDS, DSP_MOST_SLICES - 1, DSP_ATTRIBUTE_USE_SIMD) = 3;
+            lend(&registers)[DSP_REGISTER_P] = UINT64_MAX;
+            lend(&ports)[DSP_PORT_OPMODE] = 64;
+            expect_refusal(clock_of(DSP_MOST_SLICES), DSP_BAD_ATTRIBUTE, k, "forbidden lanes, before registers and ports");
+        }
+}
+
 static void worked_example(void)
 {
     cleared_column(1);
@@ -173,6 +196,41 @@ static void neighbours(void)
     expect(clock_of(2) == 0, "two slices");
     expect(DSP_WORD(lend(&registers), DSP_REGISTER_WORDS, 0, DSP_REGISTER_P) == 100, "the lower slice loads C");
     expect(DSP_WORD(lend(&registers), DSP_REGISTER_WORDS, 1, DSP_REGISTER_P) == 42, "the upper slice adds the P of before the edge");
+}
+
+/* P in a setting of lanes, with A:B as X and C where OPMODE takes it. */
+static uint64_t shown_in(uint64_t use_simd, uint64_t ab, uint64_t c, uint64_t opmode, uint64_t alumode, uint64_t cin)
+{
+    cleared_column(1);
+    lend(&attributes)[DSP_ATTRIBUTE_USE_SIMD] = use_simd;
+    lend(&ports)[DSP_PORT_A] = ab >> 18;
+    lend(&ports)[DSP_PORT_B] = ab & 0x3ffff;
+    lend(&ports)[DSP_PORT_C] = c;
+    lend(&ports)[DSP_PORT_OPMODE] = opmode;
+    lend(&ports)[DSP_PORT_ALUMODE] = alumode;
+    lend(&ports)[DSP_PORT_CARRYIN] = cin;
+    expect(clock_of(1) == 0, "a clock in lanes");
+    return lend(&outputs)[DSP_OUTPUT_P];
+}
+
+/* Worked out lane by lane: C is Y with OPMODE 15, Z with 51 and W with 387; P is that of one lane, of two and of four. */
+static void lanes(void)
+{
+    static const struct { uint64_t ab, c, opmode, alumode, cin, p[3]; } sums[] = {
+        { 0xffffffffffff, 1, 15, 0, 0, { 0, 0xffffff000000, 0xfffffffff000 } },
+        { 0xffffffffffff, 1, 15, 0, 1, { 1, 0xffffff000001, 0xfffffffff001 } },
+        { 0x800800800800, 0x800800800800, 387, 0, 0, { 0x001001001000, 0x001000001000, 0 } },
+        { 0x001002003004, 0, 51, 1, 0, { 0x001002003003, 0x001001003003, 0x000001002003 } },
+        { 0, 0, 51, 1, 1, { 0, 0xffffff000000, 0xfffffffff000 } },
+        { 0x000800fff001, 0x000800001002, 15, 2, 1, { 0xffeffefffffb, 0xffeffffffffb, 0xfffffffffffb } },
+        { 1, 0, 51, 3, 0, { 0xffffffffffff, 0xffffff, 0xfff } },
+        { 1, 0, 51, 3, 1, { 0xfffffffffffe, 0xfffffe, 0xffe } },
+        { 12, 10, 51, 12, 1, { 8, 8, 8 } },
+    };
+    for (size_t i = 0; i < sizeof sums / sizeof sums[0]; i++)
+        for (unsigned simd = DSP_SIMD_ONE48; simd <= DSP_SIMD_FOUR12; simd++)
+            expect(shown_in(simd, sums[i].ab, sums[i].c, sums[i].opmode, sums[i].alumode, sums[i].cin) == sums[i].p[simd],
+                   "a sum in lanes");
 }
 
 static void clearing(void)
@@ -280,11 +338,15 @@ static const unsigned attribute_widths[] = DSP_ATTRIBUTE_WIDTHS;
 static const unsigned register_widths[] = DSP_REGISTER_WIDTHS;
 static const unsigned port_widths[] = DSP_PORT_WIDTHS;
 
-/* Mostly legal: the lists are kept, and the control words are those of a sum of A:B, C and PCIN or a product. */
+/*
+ * Mostly legal: the lists are kept, and the control words are those of a sum of A:B, C and PCIN, in lanes or not, or of a
+ * product.
+ */
 static void draw_slice(uint64_t *a, uint64_t *r, uint64_t *p)
 {
     static const unsigned pairs[][2] = { { 0, 0 }, { 1, 1 }, { 2, 1 }, { 2, 2 } };
-    static const uint64_t opmodes[] = { 0, 3, 5, 12, 15, 16, 21, 31, 48, 51, 53, 80, 256, 287, 399, 405 };
+    /* The last four take the product. */
+    static const uint64_t opmodes[] = { 0, 3, 12, 15, 16, 31, 48, 51, 80, 256, 287, 399, 5, 21, 53, 405 };
     draw_record(a, attribute_widths, DSP_ATTRIBUTE_WORDS);
     draw_record(r, register_widths, DSP_REGISTER_WORDS);
     draw_record(p, port_widths, DSP_PORT_WORDS);
@@ -295,9 +357,11 @@ static void draw_slice(uint64_t *a, uint64_t *r, uint64_t *p)
     a[DSP_ATTRIBUTE_ACASCREG] = pairs[i][1];
     a[DSP_ATTRIBUTE_BREG] = pairs[j][0];
     a[DSP_ATTRIBUTE_BCASCREG] = pairs[j][1];
-    a[DSP_ATTRIBUTE_USE_MULT] = 1;
-    p[DSP_PORT_OPMODE] = opmodes[draw() % 16];
-    r[DSP_REGISTER_OPMODE] = opmodes[draw() % 16];
+    a[DSP_ATTRIBUTE_USE_MULT] = draw() % 2;
+    a[DSP_ATTRIBUTE_USE_SIMD] = a[DSP_ATTRIBUTE_USE_MULT] ? DSP_SIMD_ONE48 : draw() % 3;
+    unsigned sums = a[DSP_ATTRIBUTE_USE_MULT] ? 16 : 12;
+    p[DSP_PORT_OPMODE] = opmodes[draw() % sums];
+    r[DSP_REGISTER_OPMODE] = opmodes[draw() % sums];
     p[DSP_PORT_ALUMODE] = draw() % 4;
     r[DSP_REGISTER_ALUMODE] = draw() % 4;
     p[DSP_PORT_INMODE] = (draw() & 14) * a[DSP_ATTRIBUTE_AMULTSEL];
@@ -305,6 +369,9 @@ static void draw_slice(uint64_t *a, uint64_t *r, uint64_t *p)
     p[DSP_PORT_CARRYINSEL] = draw() % 2;
     r[DSP_REGISTER_CARRYINSEL] = draw() % 2 * 3;
 }
+
+/* The slices of accepted clocks, by their lanes. */
+static unsigned long accepted_in[3];
 
 static void random_clock(unsigned long *accepted)
 {
@@ -320,6 +387,8 @@ static void random_clock(unsigned long *accepted)
                                   lend(&ports), ports.length, other_outputs, outputs.length);
     uint64_t word = clock_of(count);
     *accepted += word == 0;
+    for (size_t k = 0; word == 0 && k < count; k++)
+        accepted_in[DSP_WORD(lend(&attributes), DSP_ATTRIBUTE_WORDS, k, DSP_ATTRIBUTE_USE_SIMD)]++;
     expect(word == other, "the archive and the model return the same word");
     expect(memcmp(other_registers, lend(&registers), registers.length * sizeof other_registers[0]) == 0, "the same registers");
     expect(memcmp(other_outputs, lend(&outputs), outputs.length * sizeof other_outputs[0]) == 0, "the same outputs");
@@ -358,8 +427,10 @@ int main(int argc, char **argv)
     limits(&registers, register_widths, DSP_REGISTER_WORDS, DSP_BAD_REGISTER);
     limits(&ports, port_widths, DSP_PORT_WORDS, DSP_BAD_PORT);
     forbidden();
+    forbidden_lanes();
     worked_example();
     neighbours();
+    lanes();
     clearing();
     adder();
     packed_by_hand();
@@ -371,6 +442,8 @@ int main(int argc, char **argv)
     }
     printf("random: %lu clocks, of which %lu accepted, and %lu additions, 0 differences\n", calls, accepted, 10 * calls);
     expect(accepted * 10 > calls, "one random clock in ten is accepted");
+    printf("slices in accepted clocks: %lu of one lane, %lu of two, %lu of four\n", accepted_in[0], accepted_in[1], accepted_in[2]);
+    expect(accepted_in[1] * 20 > calls && accepted_in[2] * 20 > calls, "an accepted slice in lanes for every 20 random clocks");
     for (uint64_t terms = 1; terms <= DSP_MOST_TERMS; terms++)
         for (uint64_t rows = 1; rows <= DSP_MOST_ROWS; rows *= 8)
             random_packed(terms, rows);

@@ -49,12 +49,13 @@ static void packed_ports(uint64_t *p)
 
 /* ---- random settings */
 
+/* All words but USE_SIMD, which stays ONE48: what is measured is the adder of 48 bits. */
 static void random_attributes(uint64_t *a)
 {
     static const unsigned widths[] = DSP_ATTRIBUTE_WIDTHS;
     static const unsigned pairs[][2] = { { 0, 0 }, { 1, 1 }, { 2, 1 }, { 2, 2 } };
     unsigned i = (unsigned)draw_bits(2), j = (unsigned)draw_bits(2);
-    for (size_t w = 0; w < DSP_ATTRIBUTE_WORDS; w++)
+    for (size_t w = 0; w < DSP_ATTRIBUTE_USE_SIMD; w++)
         a[w] = draw_bits(widths[w]);
     a[DSP_ATTRIBUTE_AREG] = pairs[i][0];
     a[DSP_ATTRIBUTE_ACASCREG] = pairs[i][1];

@@ -19,7 +19,7 @@ uint64_t draw(void);
 /* The packed run's setting, and random numbers of 8 bits on A, D and B. */
 void packed_scene(struct scene *scene, size_t count);
 
-/* Random legal attributes, and random ports that are legal with every control word that the slice can hold. */
+/* Random legal attributes with one lane, and random ports that are legal with every control word that the slice can hold. */
 void random_scene(struct scene *scene, size_t count);
 
 /* New ports, with the attributes that the scene has. */

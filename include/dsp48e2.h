@@ -67,7 +67,20 @@ enum dsp_attribute {
     DSP_ATTRIBUTE_RND = 18,
     DSP_ATTRIBUTE_PATTERN = 19,
     DSP_ATTRIBUTE_MASK = 20,
-    DSP_ATTRIBUTE_WORDS = 21
+    DSP_ATTRIBUTE_USE_SIMD = 21,
+    DSP_ATTRIBUTE_WORDS = 22
+};
+
+/*
+ * The settings of USE_SIMD: the adder as one lane of 48 bits, two of 24 or four of 12. In the arithmetic modes each lane
+ * works modulo its own width, CIN joins the lowest lane only, and no carry passes between lanes; the logic modes, the
+ * shift by 17, the signs that CARRYINSEL takes and the detector see 48 bits. More than one lane is refused while USE_MULT
+ * is 1.
+ */
+enum dsp_simd {
+    DSP_SIMD_ONE48 = 0,
+    DSP_SIMD_TWO24 = 1,
+    DSP_SIMD_FOUR12 = 2
 };
 
 /* A slice's registers: what it holds between edges. */
@@ -119,8 +132,11 @@ enum dsp_output {
     DSP_OUTPUT_WORDS = 5
 };
 
-/* The width of every word, in bits and in the words' order. The attributes' list is narrower: AREG and BREG are 0 to 2. */
-#define DSP_ATTRIBUTE_WIDTHS { 2, 2, 2, 2, 1, 1, 1, 1, 1, 1, 1, 1, 1, 1, 1, 1, 1, 1, 48, 48, 48 }
+/*
+ * The width of every word, in bits and in the words' order. The attributes' list is narrower: AREG, BREG and USE_SIMD are
+ * 0 to 2.
+ */
+#define DSP_ATTRIBUTE_WIDTHS { 2, 2, 2, 2, 1, 1, 1, 1, 1, 1, 1, 1, 1, 1, 1, 1, 1, 1, 48, 48, 48, 2 }
 #define DSP_REGISTER_WIDTHS { 30, 30, 18, 18, 48, 27, 27, 45, 48, 9, 4, 5, 3, 1, 1, 1, 1, 1 }
 #define DSP_PORT_WIDTHS { 30, 18, 48, 27, 9, 4, 5, 3, 1, 13, 10 }
 
@@ -160,9 +176,9 @@ enum dsp_rst {
 #define DSP_WORD(words, count, k, i) ((words)[(size_t)(count) * (size_t)(k) + (size_t)(i)])
 
 /*
- * The adder and logic unit on plain numbers: W, X, Y, Z of 48 bits, CIN of 1 and ALUMODE of 4. Returns the result, which
- * is below 2^48; or DSP_REFUSED + 5 when a number is over its width; or else DSP_REFUSED + 8 for modes 8 to 11, or for a
- * logic mode with W not 0 or Y neither 0 nor all ones.
+ * The adder and logic unit on plain numbers, in one lane: W, X, Y, Z of 48 bits, CIN of 1 and ALUMODE of 4. Returns the
+ * result, which is below 2^48; or DSP_REFUSED + 5 when a number is over its width; or else DSP_REFUSED + 8 for modes 8 to
+ * 11, or for a logic mode with W not 0 or Y neither 0 nor all ones.
  */
 uint64_t dsp_adder(uint64_t w, uint64_t x, uint64_t y, uint64_t z, uint64_t cin, uint64_t alumode);
 

@@ -6,7 +6,7 @@
 #define ONES48 ONES(48)
 
 /* A record must be words and nothing else, or lending it as words is wrong. */
-typedef char attributes_are_21_words[ATTRIBUTE_WORDS == 21 ? 1 : -1];
+typedef char attributes_are_22_words[ATTRIBUTE_WORDS == 22 ? 1 : -1];
 typedef char registers_are_18_words[REGISTER_WORDS == 18 ? 1 : -1];
 typedef char ports_are_11_words[PORT_WORDS == 11 ? 1 : -1];
 typedef char outputs_are_5_words[OUTPUT_WORDS == 5 ? 1 : -1];
@@ -76,6 +76,36 @@ static uint64_t unit(uint64_t w, uint64_t x, uint64_t y, uint64_t z,
     return result & ONES48;
 }
 
+enum { ONE48, TWO24, FOUR12 };
+
+/*
+ * The arithmetic modes in lanes, each through the unit alone. The lane's width
+ * divides 48, so cutting the unit's result leaves what the lane's own modulus
+ * would, complements too.
+ */
+static uint64_t lanes(uint64_t w, uint64_t x, uint64_t y, uint64_t z,
+                      uint64_t cin, uint64_t alumode, unsigned width)
+{
+    uint64_t mask = ONES(width), result = 0;
+    unsigned low;
+
+    for (low = 0; low < 48; low += width) {
+        uint64_t lane = unit(w >> low & mask, x >> low & mask, y >> low & mask, z >> low & mask,
+                             low == 0 ? cin : 0, alumode);
+
+        result |= (lane & mask) << low;
+    }
+    return result;
+}
+
+static uint64_t split_unit(uint64_t w, uint64_t x, uint64_t y, uint64_t z,
+                           uint64_t cin, uint64_t alumode, uint64_t use_simd)
+{
+    if (use_simd == ONE48 || is_logic(alumode))
+        return unit(w, x, y, z, cin, alumode);
+    return lanes(w, x, y, z, cin, alumode, use_simd == TWO24 ? 24 : 12);
+}
+
 uint64_t column_adder(uint64_t w, uint64_t x, uint64_t y, uint64_t z,
                       uint64_t cin, uint64_t alumode)
 {
@@ -106,7 +136,8 @@ static int attributes_wrong(const struct attributes *at)
            at->adreg > 1 || at->mreg > 1 || at->preg > 1 || at->opmodereg > 1 ||
            at->alumodereg > 1 || at->inmodereg > 1 || at->carryinreg > 1 ||
            at->carryinselreg > 1 || at->use_mult > 1 || at->amultsel > 1 ||
-           at->rnd > ONES48 || at->pattern > ONES48 || at->mask > ONES48;
+           at->rnd > ONES48 || at->pattern > ONES48 || at->mask > ONES48 ||
+           at->use_simd > FOUR12 || (at->use_simd != ONE48 && at->use_mult);
 }
 
 /* The four controls in effect. */
@@ -308,7 +339,8 @@ static void compute(const struct attributes *at, const struct registers *rg,
     case 2: wv = at->rnd; break;
     case 3: wv = cpath; break;
     }
-    w->p = unit(wv, xv, yv, zv, carry_in(at, rg, po, ct->carryinsel, pcin), ct->alumode);
+    w->p = split_unit(wv, xv, yv, zv, carry_in(at, rg, po, ct->carryinsel, pcin), ct->alumode,
+                      at->use_simd);
     differ = w->p ^ at->pattern;
     w->pd = (differ & ~at->mask & ONES48) == 0;
     w->pbd = (~differ & ~at->mask & ONES48) == 0;

@@ -22,6 +22,7 @@ struct attributes {
     uint64_t creg, dreg, adreg, mreg, preg;
     uint64_t opmodereg, alumodereg, inmodereg, carryinreg, carryinselreg;
     uint64_t use_mult, amultsel, rnd, pattern, mask;
+    uint64_t use_simd;
 };
 
 struct registers {

@@ -8,6 +8,8 @@
 #include <stdlib.h>
 
 #define LINE_MOST 512
+/* The numbers of an A line that leaves USE_SIMD out. */
+#define ATTRIBUTE_WORDS_LEAST (ATTRIBUTE_WORDS - 1)
 
 enum line { LINE_READ, LINE_BROKEN, LINE_NONE };
 
@@ -62,20 +64,22 @@ static int read_number(size_t *at, uint64_t *number)
     return 1;
 }
 
-/* Reads the line as a tag and count numbers; 0 when it is not that. */
-static int parse_line(char tag, uint64_t *numbers, size_t count)
+/* Reads the line as a tag and least to most numbers, those left out as 0; 0 when it is not that. */
+static int parse_line(char tag, uint64_t *numbers, size_t least, size_t most)
 {
     size_t at = 1, i;
 
     if (line_length == 0 || line[0] != tag)
         return 0;
-    for (i = 0; i < count; i++) {
+    for (i = 0; i < most && (i < least || at < line_length); i++) {
         if (at == line_length || line[at] != '\t')
             return 0;
         at++;
         if (!read_number(&at, &numbers[i]))
             return 0;
     }
+    for (; i < most; i++)
+        numbers[i] = 0;
     return at == line_length;
 }
 
@@ -99,13 +103,13 @@ static void refuse_word(uint64_t returned)
 }
 
 /* Reads one line of a group; 0 when the input ended and may end here. */
-static int want(char tag, uint64_t *numbers, size_t count, int may_end)
+static int want(char tag, uint64_t *numbers, size_t least, size_t most, int may_end)
 {
     enum line got = read_line();
 
     if (got == LINE_NONE && may_end)
         return 0;
-    if (got != LINE_READ || !parse_line(tag, numbers, count))
+    if (got != LINE_READ || !parse_line(tag, numbers, least, most))
         refuse(12, line_number);
     return 1;
 }
@@ -118,15 +122,15 @@ int main(void)
     static uint64_t outputs[COLUMN_TALLEST * OUTPUT_WORDS];
     uint64_t count, k;
 
-    want('N', &count, 1, 0);
+    want('N', &count, 1, 1, 0);
     refuse_word(column_check_count(count));
     for (k = 0; k < count; k++)
-        want('A', attributes + k * ATTRIBUTE_WORDS, ATTRIBUTE_WORDS, 0);
+        want('A', attributes + k * ATTRIBUTE_WORDS, ATTRIBUTE_WORDS_LEAST, ATTRIBUTE_WORDS, 0);
     refuse_word(column_check_attributes(count, attributes));
     column_clear(count, registers, count * REGISTER_WORDS);
-    while (want('P', ports, PORT_WORDS, 1)) {
+    while (want('P', ports, PORT_WORDS, PORT_WORDS, 1)) {
         for (k = 1; k < count; k++)
-            want('P', ports + k * PORT_WORDS, PORT_WORDS, 0);
+            want('P', ports + k * PORT_WORDS, PORT_WORDS, PORT_WORDS, 0);
         refuse_word(column_clock(count, attributes, count * ATTRIBUTE_WORDS,
                                  registers, count * REGISTER_WORDS,
                                  ports, count * PORT_WORDS,

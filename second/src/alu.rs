@@ -1,6 +1,7 @@
 //! The arithmetic and logic unit over signed 48-bit numbers.
 
-use crate::bits::{number, pattern, wrap};
+use crate::attributes::Lanes;
+use crate::bits::{number, pattern, signed, wrap};
 use crate::control::AluMode;
 use crate::refusal::{returned, Reason, Refusal};
 
@@ -14,12 +15,38 @@ pub struct Operands {
     pub carry: bool,
 }
 
+impl Operands {
+    /// What the lane sees whose lowest bit is the one given.
+    fn lane(self, lowest: u32, width: u32) -> Operands {
+        let cut = |value: i64| wrap(value >> lowest, width);
+        Operands {
+            w: cut(self.w),
+            x: cut(self.x),
+            y: cut(self.y),
+            z: cut(self.z),
+            carry: self.carry && lowest == 0,
+        }
+    }
+}
+
 /// Works out the unit's result, again a signed 48-bit number.
-pub fn settle(mode: AluMode, operands: Operands) -> i64 {
+pub fn settle(mode: AluMode, lanes: Lanes, operands: Operands) -> i64 {
+    // The logic modes know no lanes.
+    let width = if mode.is_logic() { 48 } else { lanes.width() };
+    let result = (0..48).step_by(width as usize).fold(0, |word, lowest| {
+        let lane = one_lane(mode, operands.lane(lowest, width));
+        word | pattern(lane, width) << lowest
+    });
+    signed(result, 48)
+}
+
+/// The result of one lane, not yet cut to its width.
+fn one_lane(mode: AluMode, operands: Operands) -> i64 {
     let Operands { w, x, y, z, carry } = operands;
     let others = w + x + y + i64::from(carry);
-    let result = match mode {
-        // In two's complement, 2^48 - 1 less a word is the word's complement.
+    match mode {
+        // In two's complement, all ones less a word is the word's complement,
+        // whatever the width.
         AluMode::Sum => z + others,
         AluMode::SumWithNotZ => !z + others,
         AluMode::NotSum => !(z + others),
@@ -31,8 +58,7 @@ pub fn settle(mode: AluMode, operands: Operands) -> i64 {
         AluMode::AndNot => majority(x, y, !z),
         AluMode::Nand => !majority(x, y, z),
         AluMode::NandNot => !majority(x, y, !z),
-    };
-    wrap(result, 48)
+    }
 }
 
 /// Bit by bit: `and` of the outer two when y is 0, `or` when y is ones.
@@ -59,5 +85,5 @@ fn judged(wxyz: [u64; 4], cin: u64, alumode: u64) -> Result<u64, Refusal> {
     if mode.is_logic() && (operands.w != 0 || !matches!(operands.y, 0 | -1)) {
         return Err(forbidden);
     }
-    Ok(pattern(settle(mode, operands), 48))
+    Ok(pattern(settle(mode, Lanes::One48, operands), 48))
 }

@@ -1,6 +1,7 @@
 //! What a slice is built as: settings that no clock changes.
 
 use crate::bits::{flag, number};
+use crate::lines::Counts;
 
 /// How many registers stand in an A or B path.
 #[derive(Clone, Copy, Debug, PartialEq, Eq)]
@@ -18,6 +19,35 @@ pub struct Pipeline {
     pub early_tap: bool,
     /// The input comes from the slice below instead of the port.
     pub from_below: bool,
+}
+
+/// How the unit's 48 bits are parted in the arithmetic modes.
+#[derive(Clone, Copy, Debug, PartialEq, Eq)]
+pub enum Lanes {
+    One48,
+    Two24,
+    Four12,
+}
+
+impl Lanes {
+    /// The bits of each lane.
+    pub fn width(self) -> u32 {
+        match self {
+            Lanes::One48 => 48,
+            Lanes::Two24 => 24,
+            Lanes::Four12 => 12,
+        }
+    }
+
+    /// The lanes of a setting; a slice that multiplies has just one.
+    fn read(word: u64, multiplies: bool) -> Option<Lanes> {
+        match word {
+            0 => Some(Lanes::One48),
+            1 if !multiplies => Some(Lanes::Two24),
+            2 if !multiplies => Some(Lanes::Four12),
+            _ => None,
+        }
+    }
 }
 
 /// The settings of one slice; `held` marks a register that is read.
@@ -40,14 +70,18 @@ pub struct Attributes {
     pub rnd: i64,
     pub pattern: i64,
     pub mask: i64,
+    pub lanes: Lanes,
 }
 
 impl Attributes {
-    pub const WORDS: usize = 21;
+    pub const WORDS: usize = 22;
+    /// A listing may leave the last word out, and then there is one lane.
+    pub const LISTED: Counts = 21..=22;
 
     /// Nothing when one of the words breaks the list of legal values.
     pub fn read(words: &[u64]) -> Option<Attributes> {
         let w: &[u64; Self::WORDS] = words.try_into().ok()?;
+        let multiplies = flag(w[16])?;
         Some(Attributes {
             a: pipeline(w[0], w[2], w[4])?,
             b: pipeline(w[1], w[3], w[5])?,
@@ -61,11 +95,12 @@ impl Attributes {
             inmode_held: flag(w[13])?,
             carryin_held: flag(w[14])?,
             carryinsel_held: flag(w[15])?,
-            multiplies: flag(w[16])?,
+            multiplies,
             preadds: flag(w[17])?,
             rnd: number(w[18], 48)?,
             pattern: number(w[19], 48)?,
             mask: number(w[20], 48)?,
+            lanes: Lanes::read(w[21], multiplies)?,
         })
     }
 }

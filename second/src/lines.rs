@@ -1,9 +1,13 @@
 //! Lines out of a stream of bytes, none longer than the limit.
 
 use std::io::{self, BufRead};
+use std::ops::RangeInclusive;
 
 /// The longest line, without its newline.
 const LONGEST: usize = 512;
+
+/// How many numbers a line may have.
+pub type Counts = RangeInclusive<usize>;
 
 /// What the stream gave for the next line.
 pub enum Next {
@@ -49,14 +53,19 @@ impl<R: BufRead> Lines<R> {
     }
 }
 
-/// The numbers of a line, when it has just this tag and this many of them.
-pub fn numbers(line: &[u8], tag: u8, count: usize) -> Option<Vec<u64>> {
+/// The numbers of a line, when it has just this tag and a count of them that
+/// it may have; those it leaves out are 0.
+pub fn numbers(line: &[u8], tag: u8, counts: &Counts) -> Option<Vec<u64>> {
     let mut fields = line.split(|byte| *byte == b'\t');
     if fields.next()? != [tag] {
         return None;
     }
-    let numbers: Vec<u64> = fields.map(decimal).collect::<Option<_>>()?;
-    (numbers.len() == count).then_some(numbers)
+    let mut numbers: Vec<u64> = fields.map(decimal).collect::<Option<_>>()?;
+    if !counts.contains(&numbers.len()) {
+        return None;
+    }
+    numbers.resize(*counts.end(), 0);
+    Some(numbers)
 }
 
 /// Digits alone, no leading zero but for 0 itself, below 2^64.

@@ -4,7 +4,7 @@ use std::io::{self, BufRead, Write};
 
 use crate::attributes::Attributes;
 use crate::column::{height, read_attributes, Column};
-use crate::lines::{numbers, Lines, Next};
+use crate::lines::{numbers, Counts, Lines, Next};
 use crate::ports::Ports;
 use crate::refusal::{Reason, Refusal};
 use crate::slice::Outputs;
@@ -57,12 +57,12 @@ pub fn play(input: impl BufRead, output: impl Write) -> io::Result<()> {
 
 impl<R: BufRead, W: Write> Play<R, W> {
     fn run(&mut self) -> Result<(), Stop> {
-        let count = self.due(b'N', 1)?[0];
+        let count = self.due(b'N', &(1..=1))?[0];
         let height = height(count)?;
-        let settings = self.group(b'A', Attributes::WORDS, height)?;
+        let settings = self.group(b'A', &Attributes::LISTED, height)?;
         let mut column = Column::cleared(read_attributes(&settings)?);
-        while let Some(mut words) = self.line(b'P', Ports::WORDS)? {
-            words.extend(self.group(b'P', Ports::WORDS, height - 1)?);
+        while let Some(mut words) = self.line(b'P', &Ports::LISTED)? {
+            words.extend(self.group(b'P', &Ports::LISTED, height - 1)?);
             let shown = column.clock_words(&words)?;
             self.print(&shown)?;
             self.clocks += 1;
@@ -71,26 +71,26 @@ impl<R: BufRead, W: Write> Play<R, W> {
     }
 
     /// The next line's numbers, or nothing at the end of the input.
-    fn line(&mut self, tag: u8, count: usize) -> Result<Option<Vec<u64>>, Stop> {
+    fn line(&mut self, tag: u8, counts: &Counts) -> Result<Option<Vec<u64>>, Stop> {
         self.line += 1;
         let read = match self.lines.next_line()? {
             Next::End => return Ok(None),
             Next::Broken => None,
-            Next::Line(line) => numbers(&line, tag, count),
+            Next::Line(line) => numbers(&line, tag, counts),
         };
         read.map(Some).ok_or_else(|| self.malformed())
     }
 
     /// The next line's numbers, which must be there.
-    fn due(&mut self, tag: u8, count: usize) -> Result<Vec<u64>, Stop> {
-        self.line(tag, count)?.ok_or_else(|| self.malformed())
+    fn due(&mut self, tag: u8, counts: &Counts) -> Result<Vec<u64>, Stop> {
+        self.line(tag, counts)?.ok_or_else(|| self.malformed())
     }
 
     /// The numbers of several lines of one kind.
-    fn group(&mut self, tag: u8, count: usize, lines: usize) -> Result<Vec<u64>, Stop> {
-        let mut words = Vec::with_capacity(count * lines);
+    fn group(&mut self, tag: u8, counts: &Counts, lines: usize) -> Result<Vec<u64>, Stop> {
+        let mut words = Vec::with_capacity(counts.end() * lines);
         for _ in 0..lines {
-            words.extend(self.due(tag, count)?);
+            words.extend(self.due(tag, counts)?);
         }
         Ok(words)
     }

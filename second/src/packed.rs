@@ -1,6 +1,6 @@
 //! Packed dot products: two sums a row from one column.
 
-use crate::attributes::{Attributes, Pipeline, Stages};
+use crate::attributes::{Attributes, Lanes, Pipeline, Stages};
 use crate::bits::{pattern, wrap};
 use crate::column::Column;
 use crate::ports::Ports;
@@ -123,5 +123,6 @@ fn settings() -> Attributes {
         rnd: 0,
         pattern: 0,
         mask: 0,
+        lanes: Lanes::One48,
     }
 }

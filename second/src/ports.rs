@@ -1,6 +1,7 @@
 //! What is driven into a slice during one clock.
 
 use crate::bits::{bit, field, flag, number};
+use crate::lines::Counts;
 
 /// The bits of the CE word.
 #[derive(Clone, Copy)]
@@ -53,6 +54,7 @@ pub struct Ports {
 
 impl Ports {
     pub const WORDS: usize = 11;
+    pub const LISTED: Counts = 11..=11;
 
     /// Nothing when one of the words is over its width.
     pub fn read(words: &[u64]) -> Option<Ports> {

@@ -81,7 +81,8 @@ impl Wired<'_> {
         let b_path = path(&att.b, b_input, reg.b2);
         let (ad, product) = self.multiply(a_path, b_path);
         let m_path = if att.m_held { reg.m } else { product };
-        let result = alu::settle(self.controls.alumode, self.operands(a_path, b_path, m_path));
+        let operands = self.operands(a_path, b_path, m_path);
+        let result = alu::settle(self.controls.alumode, att.lanes, operands);
         // Differing bits that the mask leaves in sight.
         let differ = result ^ att.pattern;
         let pd = differ & !att.mask == 0;

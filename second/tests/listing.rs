@@ -127,6 +127,52 @@ fn tags_as_text() {
     assert_eq!(played([N1.as_bytes(), b"\xff\n"].concat()), "R\t12\t0\t2\n");
 }
 
+/// An `A` line of zeros but for USE_MULT, with this many numbers.
+fn settings(multiplies: u64, numbers: usize) -> String {
+    let words = (0..numbers).map(|word| if word == 16 { multiplies } else { 0 });
+    let words: Vec<String> = words.map(|word| format!("\t{word}")).collect();
+    format!("A{}\n", words.concat())
+}
+
+#[test]
+fn lengths_of_a_line() {
+    let shown = "O\t0\t0\t12\t0\t0\t0\t0\n";
+    for numbers in [21, 22] {
+        let listing = format!("{N1}{}{P12}", settings(0, numbers));
+        assert_eq!(played(listing), format!("{shown}E\t1\n"), "{numbers}");
+    }
+    for numbers in [0, 1, 11, 20, 23, 24, 44, 200] {
+        let listing = format!("{N1}{}{P12}", settings(0, numbers));
+        assert_eq!(played(listing), "R\t12\t0\t2\n", "{numbers}");
+    }
+    for end in ["\t\n", "\t0\t\n", "\t01\n", "\tx\n", "\t18446744073709551616\n", " 0\n"] {
+        let listing = format!("{N1}{}{end}{P12}", A0.trim_end());
+        assert_eq!(played(listing), "R\t12\t0\t2\n", "{end:?}");
+    }
+}
+
+#[test]
+fn both_lengths_in_one_listing() {
+    // All ones and 1: two lanes keep the high ones, four the upper three, one none.
+    let sum = "P\t1073741823\t262143\t1\t0\t15\t0\t0\t0\t0\t0\t0\n";
+    let (one, two, four) = (A0, A0.replace('\n', "\t1\n"), A0.replace('\n', "\t2\n"));
+    // One lane has P 0, which is the pattern as it stands.
+    let shown = [
+        "O\t0\t0\t0\t1\t0\t0\t0\n",
+        "O\t0\t1\t281474959933440\t0\t0\t0\t0\n",
+        "O\t0\t2\t281474976706560\t0\t0\t0\t0\n",
+        "O\t0\t3\t0\t1\t0\t0\t0\nE\t1\n",
+    ];
+    let clock = sum.repeat(4);
+    assert_eq!(played(format!("N\t4\n{one}{two}{four}{one}{clock}")), shown.concat());
+    // A wrong count is found at its line, before what the others mean.
+    let three = A0.replace('\n', "\t3\n");
+    assert_eq!(played(format!("N\t3\n{three}{one}{}", settings(0, 23))), "R\t12\t0\t4\n");
+    assert_eq!(played(format!("N\t3\n{one}{three}{two}{sum}")), "R\t3\t0\t1\n");
+    let wrong = settings(1, 21).replace('\n', "\t2\n");
+    assert_eq!(played(format!("N\t3\n{two}{}{wrong}", settings(1, 21))), "R\t3\t0\t2\n");
+}
+
 #[test]
 fn meaning_waits_for_the_group() {
     let wrong = A0.replace("A\t0", "A\t3");

@@ -3,6 +3,9 @@
 use second::calls::answer;
 use second::refusal::REFUSED;
 
+/// The attribute words of one slice.
+const ATTRIBUTES: usize = 22;
+
 /// A column's words, to be spoiled word by word.
 #[derive(Clone)]
 struct Words {
@@ -16,7 +19,7 @@ struct Words {
 fn zeros(count: usize) -> Words {
     Words {
         count: count as u64,
-        attributes: vec![0; 21 * count],
+        attributes: vec![0; ATTRIBUTES * count],
         registers: vec![0; 18 * count],
         ports: vec![0; 11 * count],
         outputs: vec![9; 5 * count],
@@ -105,21 +108,70 @@ fn number_02_length() {
 
 #[test]
 fn number_03_attribute() {
-    for word in 0..21 {
+    for word in 0..ATTRIBUTES {
         let first_over = match word {
-            0 | 1 => 3,
+            0 | 1 | 21 => 3,
             18..=20 => 1 << 48,
             _ => 2,
         };
-        at_each_slice(3, |words, slice| words.attributes[21 * slice + word] = first_over);
+        at_each_slice(3, |words, slice| words.attributes[ATTRIBUTES * slice + word] = first_over);
     }
     for (stages, cascade) in [(0, 1), (0, 2), (1, 0), (1, 2), (2, 0), (2, 3)] {
         for first in 0..2 {
             at_each_slice(3, |words, slice| {
-                words.attributes[21 * slice + first] = stages;
-                words.attributes[21 * slice + first + 2] = cascade;
+                words.attributes[ATTRIBUTES * slice + first] = stages;
+                words.attributes[ATTRIBUTES * slice + first + 2] = cascade;
             });
         }
+    }
+}
+
+#[test]
+fn number_03_lanes() {
+    for lanes in [3, 4, 1 << 32, u64::MAX] {
+        at_each_slice(3, |words, slice| words.attributes[ATTRIBUTES * slice + 21] = lanes);
+    }
+    for lanes in [1, 2] {
+        at_each_slice(3, |words, slice| {
+            words.attributes[ATTRIBUTES * slice + 16] = 1;
+            words.attributes[ATTRIBUTES * slice + 21] = lanes;
+        });
+        // Neither the slice below that multiplies nor the lanes alone are wrong.
+        let mut words = zeros(2);
+        (words.attributes[16], words.attributes[ATTRIBUTES + 21]) = (1, lanes);
+        assert_eq!(words.clock(), 0);
+    }
+    // The multiplier stands alone, used or not.
+    let mut words = zeros(1);
+    words.attributes[16] = 1;
+    assert_eq!(words.clock(), 0);
+}
+
+#[test]
+fn number_03_lanes_in_its_order() {
+    // The lengths come before, and 21 words a slice is a wrong one.
+    let mut words = zeros(2);
+    words.attributes[21] = 3;
+    words.attributes.truncate(42);
+    assert_eq!(words.clock(), REFUSED + 2);
+    // All that comes later waits, and the lowest slice is the one named.
+    let faults: [fn(&mut Words); 2] = [
+        |words| words.attributes[ATTRIBUTES * 4 + 21] = u64::MAX,
+        |words| {
+            words.attributes[ATTRIBUTES * 4 + 16] = 1;
+            words.attributes[ATTRIBUTES * 4 + 21] = 2;
+        },
+    ];
+    for fault in faults {
+        let mut words = zeros(6);
+        words.registers[8] = 1 << 48;
+        words.ports[2] = 1 << 48;
+        (words.ports[4], words.ports[5], words.ports[6], words.ports[7]) = (64, 8, 4, 2);
+        fault(&mut words);
+        words.attributes[ATTRIBUTES * 5] = 3;
+        assert_eq!(words.clock(), REFUSED + 256 * 4 + 3);
+        words.attributes[ATTRIBUTES * 2 + 21] = 3;
+        assert_eq!(words.clock(), REFUSED + 256 * 2 + 3);
     }
 }
 
@@ -150,7 +202,7 @@ fn number_06_inmode() {
     for inmode in [1, 4, 8, 16] {
         at_each_slice(6, |words, slice| words.ports[11 * slice + 6] = inmode);
         at_each_slice(6, |words, slice| {
-            words.attributes[21 * slice + 13] = 1;
+            words.attributes[ATTRIBUTES * slice + 13] = 1;
             words.registers[18 * slice + 11] = inmode;
         });
     }
@@ -162,7 +214,7 @@ fn number_07_opmode() {
     for opmode in [64, 112, 1, 4, 5, 2, 32, 96, 128] {
         at_each_slice(7, |words, slice| words.ports[11 * slice + 4] = opmode);
         at_each_slice(7, |words, slice| {
-            words.attributes[21 * slice + 11] = 1;
+            words.attributes[ATTRIBUTES * slice + 11] = 1;
             words.registers[18 * slice + 9] = opmode;
         });
     }
@@ -179,7 +231,7 @@ fn number_08_alumode() {
     for alumode in 8..=11 {
         at_each_slice(8, |words, slice| words.ports[11 * slice + 5] = alumode);
         at_each_slice(8, |words, slice| {
-            words.attributes[21 * slice + 12] = 1;
+            words.attributes[ATTRIBUTES * slice + 12] = 1;
             words.registers[18 * slice + 10] = alumode;
         });
     }
@@ -202,7 +254,7 @@ fn number_09_carryinsel() {
     for carryinsel in [2, 4, 6, 5, 7] {
         at_each_slice(9, |words, slice| words.ports[11 * slice + 7] = carryinsel);
         at_each_slice(9, |words, slice| {
-            words.attributes[21 * slice + 15] = 1;
+            words.attributes[ATTRIBUTES * slice + 15] = 1;
             words.registers[18 * slice + 12] = carryinsel;
         });
     }
@@ -243,7 +295,7 @@ fn number_12_line() {
 #[test]
 fn checks_go_over_all_slices_before_the_next() {
     let faults: [fn(&mut Words, usize); 7] = [
-        |words, slice| words.attributes[21 * slice + 6] = 2,
+        |words, slice| words.attributes[ATTRIBUTES * slice + 6] = 2,
         |words, slice| words.registers[18 * slice + 13] = 2,
         |words, slice| words.ports[11 * slice + 8] = 2,
         |words, slice| words.ports[11 * slice + 6] |= 4,

@@ -64,7 +64,7 @@ fn value_08_preadder_wraps() {
     assert_eq!(played(listing), format!("O 0 0 {expected} 0 0 0 0\nE 1\n"));
     assert_eq!(signed(67108863 + 1, 27), -67108864);
     // The AD register takes the pattern.
-    let attributes = "21 0 0 0 0 0 0 0 0 1 0 0 0 0 0 0 0 1 1 0 0 0";
+    let attributes = "22 0 0 0 0 0 0 0 0 1 0 0 0 0 0 0 0 1 1 0 0 0 0";
     let registers = "18 0 0 0 0 0 0 0 0 0 0 0 0 0 0 0 0 0 0";
     let call =
         format!("clock 1 {attributes} {registers} 11 1 1 0 67108863 5 0 4 0 0 64 0 5 9 9 9 9 9");

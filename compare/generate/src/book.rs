@@ -5,6 +5,7 @@ use std::io::{self, BufWriter, Write};
 use std::path::{Path, PathBuf};
 
 use crate::oracle::ending;
+use crate::random::Random;
 use crate::words::Column;
 
 /// The name of the file of expectations.
@@ -17,14 +18,16 @@ pub struct Book {
     listings: PathBuf,
     expected: BufWriter<File>,
     count: u64,
+    /// Decides the lengths of `A` lines, and nothing else.
+    random: Random,
 }
 
 impl Book {
-    pub fn open(directory: &Path) -> io::Result<Book> {
+    pub fn open(directory: &Path, seed: u64) -> io::Result<Book> {
         let listings = directory.join(LISTINGS);
         fs::create_dir_all(&listings)?;
         let expected = BufWriter::new(File::create(directory.join(EXPECTED))?);
-        Ok(Book { listings, expected, count: 0 })
+        Ok(Book { listings, expected, count: 0, random: Random::new(seed) })
     }
 
     pub fn count(&self) -> u64 {
@@ -33,7 +36,8 @@ impl Book {
 
     /// A well-formed listing; the oracle knows how it ends.
     pub fn column(&mut self, aim: &str, column: &Column) -> io::Result<()> {
-        self.write("column", aim, &column.text(), &ending(column))
+        let text = column.text(&mut self.random);
+        self.write("column", aim, &text, &ending(column))
     }
 
     /// Text that may be no listing; an empty ending expects nothing certain.

@@ -23,6 +23,7 @@ pub fn write(out: &mut impl Write, random: &mut Random, count: u64) -> io::Resul
     sweep_adder(out)?;
     sweep_counts_and_lengths(out, random)?;
     sweep_faults(out, random)?;
+    sweep_lanes(out, random)?;
     sweep_packed(out, random)?;
     for _ in 0..count {
         match random.below(20) {
@@ -136,8 +137,8 @@ fn sweep_counts_and_lengths(out: &mut impl Write, random: &mut Random) -> io::Re
         writeln!(out, "clear {count} 0")?;
         writeln!(out, "clear {count} {}", stretch(&[7; 18]))?;
     }
-    for (height, attributes) in [(25, 525), (24, 504)] {
-        let lent = [attributes, height * 18, height * 11, height * 5]
+    for height in [25, 24] {
+        let lent = [height * 22, height * 18, height * 11, height * 5]
             .map(|words| stretch(&vec![0; words]));
         writeln!(out, "clock {height} {}", lent.join(" "))?;
         writeln!(out, "clear {height} {}", stretch(&vec![1; height * 18]))?;
@@ -145,8 +146,9 @@ fn sweep_counts_and_lengths(out: &mut impl Write, random: &mut Random) -> io::Re
     for height in 1..=24 {
         for which in 0..4 {
             let legal = Clock::legal(random, height);
-            let right = [21, 18, 11, 5][which] * height as usize;
-            for length in [0, right - 1, right + 1, right * 2] {
+            let right = [22, 18, 11, 5][which] * height as usize;
+            // The attributes' second to last is the length without USE_SIMD.
+            for length in [0, right - 1, right + 1, right - height as usize, right * 2] {
                 let mut clock = legal.clone();
                 let lent = [
                     &mut clock.attributes,
@@ -191,6 +193,30 @@ fn sweep_faults(out: &mut impl Write, random: &mut Random) -> io::Result<()> {
             clock.registers[slice * 18 + word] = random.pick(&[1 << width, u64::MAX]);
             clock.write(out)?;
         }
+    }
+    Ok(())
+}
+
+/// Slices in each setting of lanes side by side, all operands at lane edges: W
+/// is RND, X is A:B, Y is C and Z is the register P.
+fn sweep_lanes(out: &mut impl Write, random: &mut Random) -> io::Result<()> {
+    let edges = lane_edges();
+    for case in 0..4 * 2 * edges.len() * edges.len() {
+        let (mode, carry, pair) = (case % 4, case / 4 % 2, case / 8);
+        let [x, y] = [edges[pair % edges.len()], edges[pair / edges.len()]];
+        // Two operands alone half of the time, so that CIN alone may make a wrap.
+        let alone = pair % 2 == 0;
+        let [w, z] = [(); 2].map(|()| if alone { 0 } else { random.pick(&edges) });
+        let mut clock = Clock::of(random, &[[0; 22]; 3]);
+        for slice in 0..3 {
+            let at = &mut clock.attributes[slice * 22..][..22];
+            (at[at::PREG], at[at::RND], at[at::USE_SIMD]) = (1, w, slice as u64);
+            clock.registers[slice * 18 + rg::P] = z;
+            let (a, b, opmode) = (x >> 18, x & ones(18), 2 << 7 | 2 << 4 | 3 << 2 | 3);
+            let po = [a, b, y, 0, opmode, mode as u64, 0, 0, carry as u64, CE_ALL, 0];
+            clock.ports[slice * 11..][..11].copy_from_slice(&po);
+        }
+        clock.write(out)?;
     }
     Ok(())
 }

@@ -43,7 +43,7 @@ fn spoiled(book: &mut Book, random: &mut Random) -> io::Result<()> {
     let height = random.within(1, 4);
     let mut growing = Growing::random(random, height);
     growing.grow(random, 3);
-    let mut text = growing.column.text();
+    let mut text = growing.column.text(random);
     for _ in 0..random.within(1, 2) {
         let place = random.below(text.len() as u64) as usize;
         match random.below(4) {

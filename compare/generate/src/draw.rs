@@ -19,7 +19,7 @@ const DEPTHS: [(u64, u64); 4] = [(0, 0), (1, 1), (2, 1), (2, 2)];
 
 /// Legal attributes; the wide ones so that the detector has a chance.
 pub fn attributes(random: &mut Random) -> Attributes {
-    let mut at = [0; 21];
+    let mut at = [0; 22];
     (at[at::AREG], at[at::ACASCREG]) = random.pick(&DEPTHS);
     (at[at::BREG], at[at::BCASCREG]) = random.pick(&DEPTHS);
     for flag in &mut at[at::A_INPUT..=at::AMULTSEL] {
@@ -27,10 +27,12 @@ pub fn attributes(random: &mut Random) -> Attributes {
     }
     // What opens more settings is drawn more often.
     at[at::PREG] |= random.below(2);
-    at[at::USE_MULT] |= random.below(2);
     at[at::AMULTSEL] |= random.below(2);
     at[at::RND] = word(random, 48);
     (at[at::PATTERN], at[at::MASK]) = detector(random);
+    if at[at::USE_MULT] == 0 {
+        at[at::USE_SIMD] = random.below(3);
+    }
     at
 }
 

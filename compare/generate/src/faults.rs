@@ -40,12 +40,16 @@ pub fn attribute_faults() -> Vec<Fault> {
             add(label, vec![(pair[0], reg), (pair[1], cascade)]);
         }
     }
-    for (word, name) in ATTRIBUTE_NAMES.iter().enumerate() {
+    for (word, name) in ATTRIBUTE_NAMES[..at::USE_SIMD].iter().enumerate() {
         let first_over = if word >= at::RND { 1 << 48 } else { 2 };
         if word >= at::A_INPUT {
             add(format!("{name} {first_over}"), vec![(word, first_over)]);
         }
         add(format!("{name} 2^64-1"), vec![(word, u64::MAX)]);
+    }
+    for (simd, multiplies) in [(3, 0), (u64::MAX, 0), (1 << 32, 0), (1, 1), (2, 1)] {
+        let label = format!("USE_SIMD {simd} with USE_MULT {multiplies}");
+        add(label, vec![(at::USE_SIMD, simd), (at::USE_MULT, multiplies)]);
     }
     faults
 }
@@ -139,6 +143,10 @@ impl Fault {
             // The cascade follows its depth, unless it is the fault itself.
             if self.number != 3 && [at::AREG, at::BREG].contains(attribute) {
                 at[*attribute + 2] = *value;
+            }
+            // A multiplier goes with one lane only.
+            if self.number != 3 && (*attribute, *value) == (at::USE_MULT, 1) {
+                at[at::USE_SIMD] = 0;
             }
         }
     }

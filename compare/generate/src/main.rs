@@ -8,8 +8,10 @@ mod faults;
 mod oracle;
 mod random;
 mod seen;
+mod seen_lanes;
 mod sweep_detector;
 mod sweep_edges;
+mod sweep_lanes;
 mod sweep_numbers;
 mod sweep_refusals;
 mod sweep_settings;
@@ -34,10 +36,11 @@ const USAGE: &str = "usage: generate listings SEED COUNT DIRECTORY
 /// Writes the sweeps and then so many random listings.
 fn listings(seed: u64, count: u64, directory: &Path) -> io::Result<()> {
     let mut random = Random::new(seed);
-    let mut book = Book::open(directory)?;
+    let mut book = Book::open(directory, seed)?;
     sweep_refusals::write(&mut book, &mut random)?;
     sweep_settings::write(&mut book, &mut random)?;
     sweep_numbers::write(&mut book)?;
+    sweep_lanes::write(&mut book, &mut random)?;
     sweep_edges::write(&mut book, &mut random)?;
     sweep_detector::write(&mut book, &mut random)?;
     sweep_text::write(&mut book, &mut random)?;

@@ -135,6 +135,16 @@ pub fn attributes_refused(at: &Attributes) -> bool {
         || !deep(at::BREG, at::BCASCREG)
         || at[at::A_INPUT..=at::AMULTSEL].iter().any(|word| *word > 1)
         || at[at::RND..=at::MASK].iter().any(|word| *word > ones(48))
+        || lanes_refused(at)
+}
+
+/// Whether USE_SIMD is no setting, or splits the adder of a slice that multiplies.
+pub fn lanes_refused(at: &Attributes) -> bool {
+    match at[at::USE_SIMD] {
+        0 => false,
+        1 | 2 => at[at::USE_MULT] == 1,
+        _ => true,
+    }
 }
 
 /// Whether a word is over its width.

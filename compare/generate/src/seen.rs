@@ -1,6 +1,7 @@
 //! The items that the clocks of a column meet.
 
 use crate::oracle::Controls;
+use crate::seen_lanes::SeenLanes;
 use crate::table::Table;
 use crate::words::*;
 
@@ -9,6 +10,7 @@ pub struct Seen {
     shape: Shape,
     control: Control,
     line: Line,
+    lanes: SeenLanes,
     flag: [usize; 2],
     shown: usize,
 }
@@ -19,6 +21,7 @@ struct Shape {
     attribute: [usize; 18],
     depth: [usize; 2],
     wide: [usize; 3],
+    simd: usize,
     cascade: [usize; 3],
 }
 
@@ -66,6 +69,7 @@ impl Shape {
             wide: wide.map(|word| {
                 table.group(&format!("attribute {}", ATTRIBUTE_NAMES[word]), EDGE_NAMES)
             }),
+            simd: table.group("attribute USE_SIMD", SIMD_NAMES),
             cascade: ["A", "B", "P"]
                 .map(|side| table.group(&format!("{side} cascade from slice 0"), slices())),
         }
@@ -120,12 +124,14 @@ impl Seen {
         let shape = Shape::new(table);
         let control = Control::new(table);
         let line = Line::new(table);
+        let lanes = SeenLanes::new(table);
         let names = ["flag with PREG 0", "flag with PREG 1"];
         let flags = [&FLAGS[..2], &FLAGS[..]];
         Seen {
             shape,
             control,
             line,
+            lanes,
             flag: std::array::from_fn(|preg| table.group(names[preg], flags[preg])),
             shown: table.group("shown P", EDGE_NAMES),
         }
@@ -149,6 +155,7 @@ impl Seen {
             for (word, group) in self.shape.wide.iter().enumerate() {
                 edge(table, *group, at[at::RND + word], 48);
             }
+            table.met(self.shape.simd, at[at::USE_SIMD] as usize);
         }
         for (input, group) in [at::A_INPUT, at::B_INPUT].into_iter().zip(self.shape.cascade) {
             reach(table, group, attributes.iter().map(|at| at[input] == 1));
@@ -167,6 +174,7 @@ impl Seen {
             (0..ports.len()).map(|k| held[k].in_effect(&attributes[k], &ports[k])).collect();
         for k in 0..ports.len() {
             self.unit(table, &attributes[k], effect[k], ports[k][po::CARRYIN]);
+            self.lanes.unit(table, &attributes[k], effect[k], &ports[k], None);
             self.inmode(table, &attributes[k], effect[k]);
             self.lines(table, &ports[k]);
         }
@@ -234,6 +242,7 @@ impl Seen {
     /// Counts the five numbers one slice showed.
     pub fn outputs(&self, table: &mut Table, at: &Attributes, shown: &[u64; 5]) {
         edge(table, self.shown, shown[0], 48);
+        self.lanes.flags(table, at, &shown[1..]);
         for item in 0..4 {
             if shown[item + 1] == 1 {
                 table.met(self.flag[at[at::PREG] as usize], item);

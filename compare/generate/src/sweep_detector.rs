@@ -15,8 +15,16 @@ pub fn write(book: &mut Book, random: &mut Random) -> io::Result<()> {
     single_bits(book, random)
 }
 
+/// The same for a slice of one lane and for one of more beside it.
 fn step(opmode: u64, c: u64, ce: u64, rst: u64) -> Vec<Ports> {
-    vec![[0, 0, c & ones(48), 0, opmode, 0, 0, 0, 0, ce, rst]]
+    vec![[0, 0, c & ones(48), 0, opmode, 0, 0, 0, 0, ce, rst]; 2]
+}
+
+/// A slice, and beside it the same in lanes, which the detector must not see.
+fn and_in_lanes(random: &mut Random, at: Attributes) -> Vec<Attributes> {
+    let mut split = at;
+    split[at::USE_SIMD] = random.within(1, 2);
+    vec![at, split]
 }
 
 /// Counts over every limit, up and down, with pauses and resets of P.
@@ -30,7 +38,7 @@ fn limits(book: &mut Book, random: &mut Random) -> io::Result<()> {
                 (limit.wrapping_sub(1), random.word()),
                 (limit.wrapping_neg(), random.word()),
             ] {
-                let mut at = [0; 21];
+                let mut at = [0; 22];
                 at[at::PREG] = 1;
                 at[at::PATTERN] = pattern;
                 at[at::MASK] = limit - 1;
@@ -44,7 +52,7 @@ fn limits(book: &mut Book, random: &mut Random) -> io::Result<()> {
                     clocks.push(step(ADD, change, ce, rst));
                 }
                 let aim = "limits of an accumulator";
-                book.column(aim, &Column { attributes: vec![at], clocks })?;
+                book.column(aim, &Column { attributes: and_in_lanes(random, at), clocks })?;
             }
         }
     }
@@ -55,7 +63,7 @@ fn limits(book: &mut Book, random: &mut Random) -> io::Result<()> {
 fn single_bits(book: &mut Book, random: &mut Random) -> io::Result<()> {
     for bit in 0..48 {
         for (preg, masked) in [(0, 0), (0, 1), (1, 0), (1, 1)] {
-            let mut at = [0; 21];
+            let mut at = [0; 22];
             at[at::PREG] = preg;
             at[at::PATTERN] = random.word() & ones(48);
             at[at::MASK] = masked << bit;
@@ -63,7 +71,8 @@ fn single_bits(book: &mut Book, random: &mut Random) -> io::Result<()> {
             let clocks =
                 [0, 1 << bit, 0, ones(48), ones(48) ^ 1 << bit, 0, ones(48), 1 << bit, 0, 0];
             let clocks = clocks.into_iter().map(near).collect();
-            book.column("single bits of a pattern", &Column { attributes: vec![at], clocks })?;
+            let column = Column { attributes: and_in_lanes(random, at), clocks };
+            book.column("single bits of a pattern", &column)?;
         }
     }
     Ok(())

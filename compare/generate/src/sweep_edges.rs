@@ -38,6 +38,8 @@ fn registered(random: &mut Random) -> Attributes {
         (at[at::AREG], at[at::ACASCREG]) = (2, random.within(1, 2));
         (at[at::BREG], at[at::BCASCREG]) = (2, random.within(1, 2));
         at[at::CREG..=at::AMULTSEL].fill(1);
+        // More than one lane goes without the multiplier.
+        at[at::USE_MULT] = u64::from(at[at::USE_SIMD] == 0);
     }
     at
 }
@@ -72,7 +74,7 @@ fn cascades(book: &mut Book, random: &mut Random) -> io::Result<()> {
     for height in 1..=24 {
         for (stages, cascade) in [(0, 0), (1, 1), (2, 1), (2, 2)] {
             for preg in [0, 1] {
-                let mut at = [0; 21];
+                let mut at = [0; 22];
                 (at[at::AREG], at[at::ACASCREG]) = (stages, cascade);
                 (at[at::BREG], at[at::BCASCREG]) = (stages, cascade);
                 at[at::PREG] = preg;

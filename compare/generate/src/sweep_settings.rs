@@ -22,6 +22,7 @@ fn each_attribute(book: &mut Book, random: &mut Random) -> io::Result<()> {
             at::AREG | at::BREG => vec![0, 1, 2],
             at::ACASCREG | at::BCASCREG => vec![1, 2],
             at::RND | at::PATTERN | at::MASK => edges(48).to_vec(),
+            at::USE_SIMD => vec![0, 1, 2],
             _ => vec![0, 1],
         };
         for value in values {
@@ -45,6 +46,8 @@ fn set_attribute(at: &mut Attributes, word: usize, value: u64) {
     match word {
         at::AREG | at::BREG => at[word + 2] = value,
         at::ACASCREG | at::BCASCREG => at[word - 2] = 2,
+        at::USE_MULT if value == 1 => at[at::USE_SIMD] = 0,
+        at::USE_SIMD if value != 0 => at[at::USE_MULT] = 0,
         _ => {}
     }
     at[word] = value;
@@ -52,7 +55,7 @@ fn set_attribute(at: &mut Attributes, word: usize, value: u64) {
 
 /// Attributes of a slice that registers nothing but what is asked.
 fn bare(settings: &[(usize, u64)]) -> Attributes {
-    let mut at = [0; 21];
+    let mut at = [0; 22];
     for (word, value) in settings {
         set_attribute(&mut at, *word, *value);
     }
@@ -123,35 +126,58 @@ fn each_opmode(book: &mut Book, random: &mut Random) -> io::Result<()> {
     Ok(())
 }
 
-/// All units: every ALUMODE with every OPMODE it goes with and every carry.
+/// All units: every ALUMODE with every OPMODE it goes with and every carry, in
+/// a slice that multiplies, and in lanes.
 fn each_unit(book: &mut Book, random: &mut Random) -> io::Result<()> {
-    let at = bare(&[(at::PREG, 1), (at::USE_MULT, 1)]);
+    let whole = bare(&[(at::PREG, 1), (at::USE_MULT, 1)]);
+    let split = [1, 2].map(|simd| bare(&[(at::PREG, 1), (at::USE_SIMD, simd)]));
+    units(book, random, "each unit", &[whole], 16)?;
+    units(book, random, "each unit in lanes", &split, 32)
+}
+
+/// The units that a slice may be.
+fn unit_cases(at: &Attributes) -> Vec<Controls> {
     let mut cases = Vec::new();
     for alumode in (0..4).chain(LOGIC_MODES) {
         for opmode in 0..512 {
             for carryinsel in [0, 1, 3, 5, 7] {
-                let controls = Controls { opmode, alumode, carryinsel, inmode: 0 };
-                if controls.refused(&at).is_none() {
-                    cases.push(controls);
-                }
+                cases.push(Controls { opmode, alumode, carryinsel, inmode: 0 });
             }
         }
     }
-    for part in cases.chunks(16) {
-        let mut at = at;
-        at[at::RND] = draw::word(random, 48);
-        (at[at::PATTERN], at[at::MASK]) = draw::detector(random);
-        let mut growing = Growing::new(vec![bare(&[(at::PREG, 1)]), at]);
-        for controls in part {
-            let mut below = driven(random);
-            below[po::OPMODE] = 3;
-            let mut po = driven(random);
-            po[po::OPMODE] = controls.opmode;
-            po[po::ALUMODE] = controls.alumode;
-            po[po::CARRYINSEL] = controls.carryinsel;
-            growing.push(vec![below, po]);
+    cases.retain(|controls| controls.refused(at).is_none());
+    cases
+}
+
+/// Slices alike but for their lanes, as every unit they may be, so many a listing.
+fn units(
+    book: &mut Book,
+    random: &mut Random,
+    aim: &str,
+    slices: &[Attributes],
+    clocks: usize,
+) -> io::Result<()> {
+    for part in unit_cases(&slices[0]).chunks(clocks) {
+        let mut attributes = vec![bare(&[(at::PREG, 1)])];
+        for at in slices {
+            let mut at = *at;
+            at[at::RND] = draw::word(random, 48);
+            (at[at::PATTERN], at[at::MASK]) = draw::detector(random);
+            attributes.push(at);
         }
-        book.column("each unit", &growing.column)?;
+        let mut growing = Growing::new(attributes);
+        for controls in part {
+            let mut ports: Vec<Ports> = (0..=slices.len()).map(|_| driven(random)).collect();
+            // The lowest shows A:B, so that PCIN is not always 0.
+            ports[0][po::OPMODE] = 3;
+            for po in &mut ports[1..] {
+                po[po::OPMODE] = controls.opmode;
+                po[po::ALUMODE] = controls.alumode;
+                po[po::CARRYINSEL] = controls.carryinsel;
+            }
+            growing.push(ports);
+        }
+        book.column(aim, &growing.column)?;
     }
     Ok(())
 }

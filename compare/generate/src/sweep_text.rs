@@ -1,23 +1,25 @@
 //! Sweeps: text that is no listing, in every place and of every sort.
 
 use std::io;
+use std::ops::RangeInclusive;
 
 use crate::book::Book;
 use crate::draw::Growing;
 use crate::random::Random;
+use crate::sweep_lanes::{alternate, alternating, with_numbers};
 use crate::words::*;
 
 pub fn write(book: &mut Book, random: &mut Random) -> io::Result<()> {
     for height in 1..=3 {
-        let mut growing = Growing::random(random, height);
-        growing.grow(random, 2);
-        spoiled_lines(book, &growing.column)?;
-        missing_lines(book, &growing.column)?;
+        let column = alternating(random, height);
+        spoiled_lines(book, &column)?;
+        missing_lines(book, &column)?;
     }
     short_columns(book, random)?;
     numbers_in_every_field(book)?;
     every_byte(book)?;
-    first_come(book)
+    first_come(book)?;
+    first_come_in_lanes(book)
 }
 
 /// The clocks that have run when the line of this index is read.
@@ -62,6 +64,7 @@ fn sorts(line: &[u8]) -> Vec<Spoiled> {
     ];
     sorts.extend(number_sorts(head, number).into_iter().map(|(sort, line)| (sort, with(line))));
     sorts.extend(tag_sorts(&text).into_iter().map(|(sort, line)| (sort, with(line))));
+    sorts.extend(count_sorts(line));
     sorts.extend(length_sorts(line));
     sorts
 }
@@ -93,9 +96,20 @@ fn number_sorts(head: &str, number: &str) -> Vec<(&'static str, String)> {
         ("2^64 times ten", put("184467440737095516160")),
         ("2^128", put("340282366920938463463374607431768211456")),
         ("leading zero before 2^64-1", put("018446744073709551615")),
-        ("a number too few", head.to_string()),
-        ("a number too many", format!("{head}\t{number}\t0")),
-        ("many numbers too many", format!("{head}\t{number}{}", "\t0".repeat(30))),
+    ]
+}
+
+/// Fewer numbers than a line may have, and more; an `A` line has two counts.
+fn count_sorts(line: &[u8]) -> Vec<Spoiled> {
+    let (fewest, most) = match line[0] {
+        b'N' => (1, 1),
+        b'A' => (SHORT_A_LINE, SHORT_A_LINE + 1),
+        _ => (11, 11),
+    };
+    vec![
+        ("a number too few", with_numbers(line, fewest - 1)),
+        ("a number too many", with_numbers(line, most + 1)),
+        ("many numbers too many", with_numbers(line, most + 30)),
     ]
 }
 
@@ -115,13 +129,16 @@ fn tag_sorts(text: &str) -> Vec<(&'static str, String)> {
     // under another tag.
     for (tag, count, kind, renamed) in [
         ("N", 1, "N line instead", "tag N instead"),
-        ("A", 21, "A line instead", "tag A instead"),
+        ("A", 22, "A line instead", "tag A instead"),
         ("P", 11, "P line instead", "tag P instead"),
     ] {
         if !text.starts_with(tag) {
             sorts.push((kind, tag.to_string() + &"\t1".repeat(count)));
             sorts.push((renamed, tag.to_string() + rest));
         }
+    }
+    if !text.starts_with('A') {
+        sorts.push(("short A line instead", "A".to_string() + &"\t1".repeat(SHORT_A_LINE)));
     }
     sorts
 }
@@ -146,7 +163,7 @@ fn length_sorts(line: &[u8]) -> Vec<Spoiled> {
 
 /// Each line of a listing spoiled in each way, the rest kept as it is.
 fn spoiled_lines(book: &mut Book, column: &Column) -> io::Result<()> {
-    let lines = column.lines();
+    let lines = column.lines(alternate);
     for (index, line) in lines.iter().enumerate() {
         let ending = format!("R 12 {} {}", clocks_before(column, index), index + 1);
         for (sort, spoiled) in sorts(&line[..line.len() - 1]) {
@@ -160,7 +177,7 @@ fn spoiled_lines(book: &mut Book, column: &Column) -> io::Result<()> {
 
 /// The input ends after each line, and within each line.
 fn missing_lines(book: &mut Book, column: &Column) -> io::Result<()> {
-    let (lines, height) = (column.lines(), column.attributes.len());
+    let (lines, height) = (column.lines(alternate), column.attributes.len());
     for index in 0..=lines.len() {
         let kept = lines[..index].concat();
         let clocks = clocks_before(column, index);
@@ -191,7 +208,7 @@ fn short_columns(book: &mut Book, random: &mut Random) -> io::Result<()> {
     for height in 1..=24u64 {
         let mut growing = Growing::random(random, height);
         growing.grow(random, 2);
-        let lines = growing.column.lines();
+        let lines = growing.column.lines(|_| random.percent(50));
         for missing in 1..height as usize {
             let kept = lines.len() - missing;
             let text = lines[..kept].concat();
@@ -211,9 +228,15 @@ fn short_columns(book: &mut Book, random: &mut Random) -> io::Result<()> {
 
 /// Every field of every kind of line: the largest number, and one above it.
 fn numbers_in_every_field(book: &mut Book) -> io::Result<()> {
-    let zeros = Column { attributes: vec![[0; 21]], clocks: vec![vec![[0; 11]]] };
-    let lines = zeros.lines();
-    for (index, fields, largest) in [(0, 1, "R 1 0 0"), (1, 21, "R 3 0 0"), (2, 11, "R 5 0 0")] {
+    let zeros = Column { attributes: vec![[0; 22]], clocks: vec![vec![[0; 11]]] };
+    let [long, short] = [false, true].map(|short| zeros.lines(|_| short));
+    for (lines, index, largest) in [
+        (&long, 0, "R 1 0 0"),
+        (&long, 1, "R 3 0 0"),
+        (&short, 1, "R 3 0 0"),
+        (&long, 2, "R 5 0 0"),
+    ] {
+        let fields = lines[index].iter().filter(|byte| **byte == b'\t').count();
         for field in 1..=fields {
             let put = |number: &str| {
                 let line = String::from_utf8(lines[index].clone()).unwrap();
@@ -234,11 +257,20 @@ fn numbers_in_every_field(book: &mut Book) -> io::Result<()> {
 
 /// A small listing cut at each byte, and with each byte changed, lost, added.
 fn every_byte(book: &mut Book) -> io::Result<()> {
-    let mut at = [0; 21];
+    let mut at = [0; 22];
     at[at::MASK] = 10;
     let clock = vec![[0, 5, 7, 0, 15, 0, 0, 0, 1, 0, 10]];
-    let text = Column { attributes: vec![at], clocks: vec![clock.clone(), clock] }.text();
-    for place in 0..=text.len() {
+    let short = Column { attributes: vec![at], clocks: vec![clock.clone()] }.lines(|_| true);
+    at[at::USE_SIMD] = 1;
+    let long = Column { attributes: vec![at], clocks: vec![clock.clone(), clock] }.lines(|_| false);
+    bytes_of(book, &long.concat(), 0..=long.concat().len())?;
+    // Of the short A line only the end, where a number more might follow.
+    let end = short[..2].concat().len();
+    bytes_of(book, &short.concat(), end - 6..=end)
+}
+
+fn bytes_of(book: &mut Book, text: &[u8], places: RangeInclusive<usize>) -> io::Result<()> {
+    for place in places {
         book.text("cut at each byte", &text[..place], "")?;
         let (head, tail) = text.split_at(place);
         for byte in *b"\0\t\n\r 019+-ANP\xff" {
@@ -290,6 +322,26 @@ fn first_come(book: &mut Book) -> io::Result<()> {
     ];
     for (text, ending) in cases {
         book.text("first come", text.as_bytes(), ending)?;
+    }
+    Ok(())
+}
+
+/// The same where one of the faults is USE_SIMD.
+fn first_come_in_lanes(book: &mut Book) -> io::Result<()> {
+    let zeros = |count: usize| "\t0".repeat(count);
+    let a = format!("A{}\n", zeros(21));
+    let (no_setting, too_many) = (a.replace('\n', "\t3\n"), a.replace('\n', "\t0\t0\n"));
+    // USE_MULT is the 17th number.
+    let multiplies = format!("A{}\t1{}\t2\n", zeros(16), zeros(4));
+    let cases = [
+        (format!("N\t2\n{no_setting}A\n"), "R 12 0 3"),
+        (format!("N\t2\n{multiplies}{too_many}"), "R 12 0 3"),
+        (format!("N\t2\n{a}{no_setting}P\n"), "R 3 0 1"),
+        (format!("N\t2\n{multiplies}{no_setting}"), "R 3 0 0"),
+        (format!("N\t3\n{a}{a}{multiplies}"), "R 3 0 2"),
+    ];
+    for (text, ending) in cases {
+        book.text("first come, lanes", text.as_bytes(), ending)?;
     }
     Ok(())
 }

@@ -8,6 +8,7 @@ use std::path::Path;
 use crate::book::{EXPECTED, LISTINGS};
 use crate::oracle::Controls;
 use crate::seen::Seen;
+use crate::seen_lanes::{cause, CAUSES};
 use crate::table::Table;
 use crate::words::*;
 
@@ -18,6 +19,9 @@ struct Tally {
     endings: usize,
     by_slice: HashMap<u64, usize>,
     by_line: usize,
+    by_cause: [usize; 3],
+    a_line: usize,
+    a_lines: usize,
     aims: usize,
     aim_items: HashMap<String, usize>,
     listings: u64,
@@ -62,6 +66,10 @@ impl Tally {
             .map(|number| (number, table.group(&format!("refusal {number} at slice"), 0..24)))
             .into();
         let by_line = table.group("refusal 12 at line", (1..=10).map(|line| line.to_string()));
+        let by_cause =
+            CAUSES.map(|cause| table.group(&format!("refusal 3 by {cause}, at slice"), 0..24));
+        let a_line = table.group("A lines that ran, by numbers", [21, 22]);
+        let a_lines = table.group("A lines of a column that ran", ["21 alone", "22 alone", "both"]);
         let seen = Seen::new(&mut table);
         let aims = table.group("aims met", [] as [&str; 0]);
         Tally {
@@ -70,6 +78,9 @@ impl Tally {
             endings,
             by_slice,
             by_line,
+            by_cause,
+            a_line,
+            a_lines,
             aims,
             aim_items: HashMap::new(),
             listings: 0,
@@ -110,8 +121,12 @@ impl Tally {
         let shown = answer.lines().filter(|line| line.starts_with('O')).count() as u64;
         self.clocks += clocks;
         self.slice_clocks += shown;
+        let text = String::from_utf8_lossy(listing);
         if kind == "column" && clocks > 0 {
-            self.column(listing, answer, clocks as usize);
+            self.column(&text, answer, clocks as usize);
+        }
+        if let ("column", Some(slice)) = (kind, last.strip_prefix("R 3 0 ")) {
+            self.attribute(&settings(&text), slice.parse().unwrap());
         }
     }
 
@@ -140,11 +155,31 @@ impl Tally {
         }
     }
 
+    /// Counts a refused attribute where USE_SIMD alone is to blame.
+    fn attribute(&mut self, attributes: &[Attributes], slice: usize) {
+        if let Some(item) = cause(&attributes[slice]) {
+            self.table.met(self.by_cause[item], slice);
+        }
+    }
+
+    /// Counts the lengths of the `A` lines.
+    fn lengths(&mut self, text: &str) {
+        let lengths: Vec<usize> = numbers(text, 'A').map(|numbers| numbers.len()).collect();
+        let long = lengths.iter().filter(|numbers| **numbers > SHORT_A_LINE).count();
+        lengths.iter().for_each(|numbers| self.table.met(self.a_line, numbers - SHORT_A_LINE));
+        let item = match long {
+            0 => 0,
+            all if all == lengths.len() => 1,
+            _ => 2,
+        };
+        self.table.met(self.a_lines, item);
+    }
+
     /// Counts what the accepted clocks of a well-formed listing met.
-    fn column(&mut self, listing: &[u8], answer: &str, clocks: usize) {
-        let text = String::from_utf8_lossy(listing);
-        let attributes: Vec<Attributes> = words(&text, 'A');
-        let ports: Vec<Ports> = words(&text, 'P');
+    fn column(&mut self, text: &str, answer: &str, clocks: usize) {
+        let attributes = settings(text);
+        let ports: Vec<Ports> = words(text, 'P');
+        self.lengths(text);
         let mut held = vec![Controls::default(); attributes.len()];
         self.seen.column(&mut self.table, &attributes);
         for ports in ports.chunks(attributes.len()).take(clocks) {
@@ -158,14 +193,22 @@ impl Tally {
     }
 }
 
-/// The numbers of all lines of one tag.
+/// The numbers of each line of one tag.
+fn numbers(text: &str, tag: char) -> impl Iterator<Item = Vec<u64>> + '_ {
+    let lines = text.lines().filter(move |line| line.starts_with(tag));
+    lines.map(|line| line.split('\t').skip(1).map(|word| word.parse().unwrap()).collect())
+}
+
+/// The numbers of all lines of one tag that has but one count of them.
 fn words<const COUNT: usize>(text: &str, tag: char) -> Vec<[u64; COUNT]> {
-    let lines = text.lines().filter(|line| line.starts_with(tag));
-    lines
-        .map(|line| {
-            let numbers: Vec<u64> =
-                line.split('\t').skip(1).map(|word| word.parse().unwrap()).collect();
-            numbers.try_into().unwrap()
-        })
-        .collect()
+    numbers(text, tag).map(|numbers| numbers.try_into().unwrap()).collect()
+}
+
+/// The settings of all slices; a short line leaves the last one 0.
+fn settings(text: &str) -> Vec<Attributes> {
+    let mut all = vec![[0; 22]; numbers(text, 'A').count()];
+    for (at, numbers) in all.iter_mut().zip(numbers(text, 'A')) {
+        at[..numbers.len()].copy_from_slice(&numbers);
+    }
+    all
 }

@@ -5,6 +5,7 @@ use std::io::{self, BufRead, BufReader};
 use std::path::Path;
 
 use crate::oracle::{attributes_refused, clock_refused, too_wide, Controls};
+use crate::seen_lanes::{cause, SeenLanes, CAUSES};
 use crate::table::Table;
 use crate::words::*;
 
@@ -38,6 +39,9 @@ struct Groups {
     terms: [usize; 2],
     rows: [usize; 2],
     heights: usize,
+    simd: usize,
+    lanes: SeenLanes,
+    causes: usize,
 }
 
 impl Groups {
@@ -74,6 +78,9 @@ impl Groups {
             terms: runs.map(|run| table.group(&format!("{run} accepted terms"), 1..8)),
             rows: runs.map(|run| table.group(&format!("{run} accepted rows"), [1, 2, 4095, 4096])),
             heights: table.group("clock accepted, by slices", 1..25),
+            simd: table.group("clock accepted, by USE_SIMD", SIMD_NAMES),
+            lanes: SeenLanes::new(table),
+            causes: table.group("clock refusal 3 by", CAUSES),
         }
     }
 }
@@ -131,21 +138,45 @@ fn one(table: &mut Table, groups: &Groups, call: &str, answer: &str) -> Result<(
     let item = table.item(groups.returned[kind], &number.to_string());
     table.met(groups.returned[kind], item);
     match number {
-        0 => accepted(table, groups, kind, &call),
+        0 => accepted(table, groups, kind, &call, &answer),
         2 => lengths(table, groups.lengths[kind], kind, &call),
-        3..=9 if kind == 1 => table.met(groups.slices[number as usize - 3], place as usize),
+        3..=9 if kind == 1 => refused(table, groups, &call, number, place as usize),
         _ => {}
     }
     Ok(())
 }
 
-fn accepted(table: &mut Table, groups: &Groups, kind: usize, call: &Read) {
+fn refused(table: &mut Table, groups: &Groups, call: &Read, number: i128, slice: usize) {
+    table.met(groups.slices[number as usize - 3], slice);
+    if number == 3 {
+        let at = Slices::of(call).attributes[slice];
+        cause(&at).into_iter().for_each(|item| table.met(groups.causes, item));
+    }
+}
+
+/// Counts the lanes that an accepted clock met, and the flags it showed.
+fn lanes(table: &mut Table, groups: &Groups, call: &Read, answer: &Read) {
+    let Slices { attributes, registers, ports } = Slices::of(call);
+    for (k, at) in attributes.iter().enumerate() {
+        let controls = Controls::of_registers(&registers[k]).in_effect(at, &ports[k]);
+        table.met(groups.simd, at[at::USE_SIMD] as usize);
+        groups.lanes.unit(table, at, controls, &ports[k], Some(&registers[k]));
+        let flags = &answer.stretches[3][k * 5 + 1..][..4];
+        let flags: Vec<u64> = flags.iter().map(|flag| *flag as u64).collect();
+        groups.lanes.flags(table, at, &flags);
+    }
+}
+
+fn accepted(table: &mut Table, groups: &Groups, kind: usize, call: &Read, answer: &Read) {
     match kind {
         0 => {
             let item = table.item(groups.adder_modes, &call.plain[5].to_string());
             table.met(groups.adder_modes, item);
         }
-        1 => table.met(groups.heights, call.plain[0] as usize - 1),
+        1 => {
+            table.met(groups.heights, call.plain[0] as usize - 1);
+            lanes(table, groups, call, answer);
+        }
         3 | 4 => {
             table.met(groups.terms[kind - 3], call.plain[0] as usize - 1);
             let rows = [1, 2, 4095, 4096].iter().position(|rows| *rows == call.plain[1]);
@@ -159,7 +190,7 @@ fn accepted(table: &mut Table, groups: &Groups, kind: usize, call: &Read) {
 fn right_lengths(kind: usize, call: &Read) -> Vec<i128> {
     let first = call.plain[0];
     match kind {
-        1 => [21, 18, 11, 5].map(|words| words * first).to_vec(),
+        1 => [22, 18, 11, 5].map(|words| words * first).to_vec(),
         2 => vec![18 * first],
         _ => {
             let rows = call.plain[1];
@@ -200,6 +231,27 @@ fn adder_refusal(call: &Read) -> Refusal {
     }
 }
 
+/// A clock call's words, slice by slice, once its lengths are right.
+struct Slices {
+    attributes: Vec<Attributes>,
+    registers: Vec<Registers>,
+    ports: Vec<Ports>,
+}
+
+impl Slices {
+    fn of(call: &Read) -> Slices {
+        Slices {
+            attributes: records(&call.stretches[0]),
+            registers: records(&call.stretches[1]),
+            ports: records(&call.stretches[2]),
+        }
+    }
+}
+
+fn records<const COUNT: usize>(words: &[i128]) -> Vec<[u64; COUNT]> {
+    words.chunks(COUNT).map(|record| std::array::from_fn(|i| record[i] as u64)).collect()
+}
+
 fn clock_refusal(call: &Read) -> Refusal {
     if !(1..=24).contains(&call.plain[0]) {
         return Some((1, 0));
@@ -207,15 +259,7 @@ fn clock_refusal(call: &Read) -> Refusal {
     if !lengths_wrong(1, call).is_empty() {
         return Some((2, 0));
     }
-    let words = |which: usize| -> Vec<u64> {
-        call.stretches[which].iter().map(|word| *word as u64).collect()
-    };
-    let (attributes, registers, ports) = (words(0), words(1), words(2));
-    let attributes: Vec<Attributes> =
-        attributes.chunks(21).map(|at| at.try_into().unwrap()).collect();
-    let registers: Vec<Registers> =
-        registers.chunks(18).map(|kept| kept.try_into().unwrap()).collect();
-    let ports: Vec<Ports> = ports.chunks(11).map(|po| po.try_into().unwrap()).collect();
+    let Slices { attributes, registers, ports } = Slices::of(call);
     if let Some(slice) = attributes.iter().position(attributes_refused) {
         return Some((3, slice as i128));
     }

@@ -1,6 +1,8 @@
 //! Which word of a record is which, and how wide.
 
-pub type Attributes = [u64; 21];
+use crate::random::Random;
+
+pub type Attributes = [u64; 22];
 pub type Registers = [u64; 18];
 pub type Ports = [u64; 11];
 
@@ -27,6 +29,7 @@ pub mod at {
     pub const RND: usize = 18;
     pub const PATTERN: usize = 19;
     pub const MASK: usize = 20;
+    pub const USE_SIMD: usize = 21;
 }
 
 /// Places of the ports.
@@ -44,15 +47,20 @@ pub mod po {
     pub const RST: usize = 10;
 }
 
-/// Places of the registers that hold controls.
+/// Places of the registers that hold operands, a carry and controls.
 pub mod rg {
+    pub const A2: usize = 1;
+    pub const B2: usize = 3;
+    pub const C: usize = 4;
+    pub const P: usize = 8;
     pub const OPMODE: usize = 9;
     pub const ALUMODE: usize = 10;
     pub const INMODE: usize = 11;
     pub const CARRYINSEL: usize = 12;
+    pub const CARRYIN: usize = 13;
 }
 
-pub const ATTRIBUTE_NAMES: [&str; 21] = [
+pub const ATTRIBUTE_NAMES: [&str; 22] = [
     "AREG",
     "BREG",
     "ACASCREG",
@@ -74,7 +82,14 @@ pub const ATTRIBUTE_NAMES: [&str; 21] = [
     "RND",
     "PATTERN",
     "MASK",
+    "USE_SIMD",
 ];
+/// The settings of USE_SIMD, and the bits of each lane.
+pub const SIMD_NAMES: [&str; 3] = ["ONE48", "TWO24", "FOUR12"];
+pub const LANE_WIDTHS: [u32; 3] = [48, 24, 12];
+/// How many numbers an `A` line has when it leaves USE_SIMD out.
+pub const SHORT_A_LINE: usize = 21;
+
 pub const PORT_NAMES: [&str; 11] =
     ["A", "B", "C", "D", "OPMODE", "ALUMODE", "INMODE", "CARRYINSEL", "CARRYIN", "CE", "RST"];
 pub const CE_NAMES: [&str; 13] =
@@ -106,6 +121,14 @@ pub fn edges(width: u32) -> [u64; 5] {
     [0, 1, ones(width), 1 << (width - 1), ones(width) >> 1]
 }
 
+/// The patterns at the edges of the lanes: each border from both sides, each
+/// lane's lowest and highest bit, and all but the highest.
+pub fn lane_edges() -> Vec<u64> {
+    let borders = [12, 24, 36].into_iter().flat_map(|border| [ones(border), 1 << border]);
+    let in_lanes = [0x001001001001, 0x800800800800, 0x7ff7ff7ff7ff];
+    [0, 1, ones(48)].into_iter().chain(borders).chain(in_lanes).collect()
+}
+
 /// A column and the clocks it is to be given.
 #[derive(Clone, Default)]
 pub struct Column {
@@ -114,16 +137,22 @@ pub struct Column {
 }
 
 impl Column {
-    /// The listing, line by line with newlines.
-    pub fn lines(&self) -> Vec<Vec<u8>> {
+    /// The listing, line by line with newlines. The `A` lines of the slices
+    /// that `short` picks leave USE_SIMD out, where it is 0.
+    pub fn lines(&self, mut short: impl FnMut(usize) -> bool) -> Vec<Vec<u8>> {
         let mut lines = vec![line('N', &[self.attributes.len() as u64])];
-        lines.extend(self.attributes.iter().map(|words| line('A', words)));
+        lines.extend(self.attributes.iter().enumerate().map(|(k, words)| {
+            let left_out = short(k) && words[at::USE_SIMD] == 0;
+            line('A', if left_out { &words[..SHORT_A_LINE] } else { words })
+        }));
         lines.extend(self.clocks.iter().flatten().map(|words| line('P', words)));
         lines
     }
 
-    pub fn text(&self) -> Vec<u8> {
-        self.lines().concat()
+    /// The listing with `A` lines all short, all long, or of both sorts.
+    pub fn text(&self, random: &mut Random) -> Vec<u8> {
+        let short = random.pick(&[0, 50, 100]);
+        self.lines(|_| random.percent(short)).concat()
     }
 }
 

@@ -2,7 +2,7 @@
 -- below 24. Assumes nothing.
 use mathlib.Core.Path.{_≡_, refl, ap}
 use mathlib.Core.Logic.{_⊎_, ⊎-elim}
-use mathlib.Core.Bool.{Bool, true, false, _&&_}
+use mathlib.Core.Bool.{Bool, true, false}
 use mathlib.Core.List.{List, [], _∷_}
 use Prim.Native.Nat.{ℕ, _*_, _<_, _≤_}
 use native.Mathlib.Nat.{not-suc-le-zero, lt-of-lt-of-le}
@@ -12,6 +12,7 @@ use lib.ListN.{length}
 use borrow.Author.Tests.{eqb-true}
 use types.Run.{OneOf}
 use denote.Enum.Declared.{tagOf}
+use Rattle.word.proofs.Laws.{both-true}
 use Rattle.records.specs.Records.{attributeWords, registerWords, portWords, outputWords}
 use Rattle.column.specs.declared.Check.{Check}
 use Rattle.column.specs.declared.Check.the-variants.{Attribute, Register, Port, Inmode, Opmode, Alumode, Carryinsel}
@@ -51,10 +52,6 @@ refusal a h p = let e : numberOf a ≡ 0 = ap numberOf p in omega arith
 unless-passes : (b : Bool) (refused next : Answer) → 0 < numberOf refused → unless b refused next ≡ Accepted → (b ≡ true) × (next ≡ Accepted)
 unless-passes true refused next h p = (refl, p)
 unless-passes false refused next h p = absurd (refusal refused h p)
-
-pub both-true : (a b : Bool) → a && b ≡ true → (a ≡ true) × (b ≡ true)
-both-true true b p = (refl, p)
-both-true false b p = (p, cc)
 
 check-above : (check : Check) → 0 < checkNumber check
 check-above = each-check (λ check. 0 < checkNumber check) (lit< tt) (lit< tt) (lit< tt) (lit< tt) (lit< tt) (lit< tt) (lit< tt)

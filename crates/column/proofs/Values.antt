@@ -1,9 +1,10 @@
 -- Facts by value that pin the column and its refusals: each stands beside a slip that would break it. Assumes nothing.
 use mathlib.Core.Path.{_≡_, refl}
 use mathlib.Core.List.{List, [], _∷_, _++_}
-use Prim.Native.Nat.{ℕ, _^_}
-use lib.ListN.{replicate}
-use Rattle.unit.specs.Unit.{arithmetic, logicRows, unitResult, preAdder, product, load}
+use Prim.Native.Nat.{ℕ, _-_, _*_, _^_}
+use lib.ListN.{replicate, set}
+use Rattle.records.specs.Records.{attributeWords}
+use Rattle.unit.specs.Unit.{arithmetic, lanes, logicRows, unitResult, splitResult, preAdder, product, load}
 use Rattle.unit.specs.Detector.{unmasked, detected}
 use Rattle.slice.specs.Slice.{controlsOf, selectsOf, pathsOf, aSide, dSide, adOf, leftOf, rightOf, productOf, operandsOf, sliceOperands, resultOf, settledOf, sliceSettled, outputsOfSettled, cascadeOf, edge, nextOf, sliceOutputs, sliceCascade, sliceNext}
 use Rattle.slice.specs.Legal.{offList, badInmode, badOpmode, badAlumode, badCarryinsel}
@@ -11,9 +12,13 @@ use Rattle.column.specs.declared.Answer.{Answer}
 use Rattle.column.specs.Column.{cascadeInto, shownAt, nextAt, columnShown, columnNext}
 use Rattle.column.specs.Refusals.{numberOf, placeOf, exceeds, broken, fails, settings, lengthsFit, clockAnswer, clearAnswer, attributesAnswer}
 
+-- the attributes of n slices, all 0
+abbrev plain : (n : ℕ) → List ℕ
+plain n = replicate (attributeWords * n) 0
+
 -- a slice's words, of which all others are 0
 abbrev preg : List ℕ
-preg = 0 ∷ 0 ∷ 0 ∷ 0 ∷ 0 ∷ 0 ∷ 0 ∷ 0 ∷ 0 ∷ 0 ∷ 1 ∷ replicate 10 0
+preg = set (plain 1) 10 1
 
 abbrev p-holds : ℕ → List ℕ
 p-holds n = replicate 8 0 ++ (n ∷ replicate 9 0)
@@ -39,31 +44,35 @@ pub record Neighbours : Type 0 where
       ≡ 40 ∷ 0 ∷ 0 ∷ 0 ∷ 0 ∷ 2 ∷ 0 ∷ 0 ∷ 0 ∷ 0 ∷ []
 
 pub record Refused : Type 0 where
-  pub none : one (replicate 21 0) (replicate 18 0) (replicate 11 0) ≡ 0 ∷ 0 ∷ []
+  pub none : one (plain 1) (replicate 18 0) (replicate 11 0) ≡ 0 ∷ 0 ∷ []
   pub no-slices : told (clockAnswer 0 [] [] [] []) ≡ 1 ∷ 0 ∷ []
   pub too-many : told (clockAnswer 25 [] [] [] []) ≡ 1 ∷ 0 ∷ []
-  pub a-word-short : one (replicate 20 0) (replicate 18 0) (replicate 11 0) ≡ 2 ∷ 0 ∷ []
+  pub a-word-short : one (replicate (attributeWords - 1) 0) (replicate 18 0) (replicate 11 0) ≡ 2 ∷ 0 ∷ []
   -- slice 1 has AREG 1 with ACASCREG 0
-  pub attribute : two (replicate 21 0 ++ (1 ∷ replicate 20 0)) (replicate 36 0) (replicate 22 0) ≡ 3 ∷ 1 ∷ []
+  pub attribute : two (plain 1 ++ set (plain 1) 0 1) (replicate 36 0) (replicate 22 0) ≡ 3 ∷ 1 ∷ []
+  -- USE_SIMD 2 is accepted; 3 in slice 1, or 1 with USE_MULT, is refused before slice 0's register A1
+  pub simd : (one (set (plain 1) 21 2) (replicate 18 0) (replicate 11 0) ≡ 0 ∷ 0 ∷ [])
+      × (two (plain 1 ++ set (plain 1) 21 3) (2 ^ 30 ∷ replicate 35 0) (replicate 22 0) ≡ 3 ∷ 1 ∷ [])
+      × (two (plain 1 ++ set (set (plain 1) 16 1) 21 1) (2 ^ 30 ∷ replicate 35 0) (replicate 22 0) ≡ 3 ∷ 1 ∷ [])
   -- slice 1's register A1 is 2^30, and slice 0's port RST 2^10
-  pub register-first : two (replicate 42 0) (replicate 18 0 ++ (2 ^ 30 ∷ replicate 17 0)) (replicate 10 0 ++ (2 ^ 10 ∷ replicate 11 0)) ≡ 4 ∷ 1 ∷ []
-  pub port : two (replicate 42 0) (replicate 36 0) (replicate 10 0 ++ (2 ^ 10 ∷ replicate 11 0)) ≡ 5 ∷ 0 ∷ []
+  pub register-first : two (plain 2) (replicate 18 0 ++ (2 ^ 30 ∷ replicate 17 0)) (replicate 10 0 ++ (2 ^ 10 ∷ replicate 11 0)) ≡ 4 ∷ 1 ∷ []
+  pub port : two (plain 2) (replicate 36 0) (replicate 10 0 ++ (2 ^ 10 ∷ replicate 11 0)) ≡ 5 ∷ 0 ∷ []
   -- INMODE 1 with AREG 0 in slice 1, and OPMODE 1 in slice 0: 6 comes before 7
-  pub inmode-first : two (replicate 42 0) (replicate 36 0) ((replicate 4 0 ++ (1 ∷ replicate 6 0)) ++ (replicate 6 0 ++ (1 ∷ replicate 4 0))) ≡ 6 ∷ 1 ∷ []
-  pub opmode : two (replicate 42 0) (replicate 36 0) ((replicate 4 0 ++ (1 ∷ replicate 6 0)) ++ (replicate 4 0 ++ (1 ∷ replicate 6 0))) ≡ 7 ∷ 0 ∷ []
-  pub alumode : one (replicate 21 0) (replicate 18 0) (replicate 5 0 ++ (8 ∷ replicate 5 0)) ≡ 8 ∷ 0 ∷ []
-  pub carryinsel : one (replicate 21 0) (replicate 18 0) (replicate 7 0 ++ (2 ∷ replicate 3 0)) ≡ 9 ∷ 0 ∷ []
+  pub inmode-first : two (plain 2) (replicate 36 0) ((replicate 4 0 ++ (1 ∷ replicate 6 0)) ++ (replicate 6 0 ++ (1 ∷ replicate 4 0))) ≡ 6 ∷ 1 ∷ []
+  pub opmode : two (plain 2) (replicate 36 0) ((replicate 4 0 ++ (1 ∷ replicate 6 0)) ++ (replicate 4 0 ++ (1 ∷ replicate 6 0))) ≡ 7 ∷ 0 ∷ []
+  pub alumode : one (plain 1) (replicate 18 0) (replicate 5 0 ++ (8 ∷ replicate 5 0)) ≡ 8 ∷ 0 ∷ []
+  pub carryinsel : one (plain 1) (replicate 18 0) (replicate 7 0 ++ (2 ∷ replicate 3 0)) ≡ 9 ∷ 0 ∷ []
   -- a control register in effect that holds a forbidden setting refuses by itself
-  pub held : one (replicate 11 0 ++ (1 ∷ replicate 9 0)) (replicate 9 0 ++ (64 ∷ replicate 8 0)) (replicate 11 0) ≡ 7 ∷ 0 ∷ []
+  pub held : one (set (plain 1) 11 1) (replicate 9 0 ++ (64 ∷ replicate 8 0)) (replicate 11 0) ≡ 7 ∷ 0 ∷ []
   pub clearing : (told (clearAnswer 0 []) ≡ 1 ∷ 0 ∷ []) × (told (clearAnswer 1 []) ≡ 2 ∷ 0 ∷ []) × (told (clearAnswer 1 (replicate 18 9)) ≡ 0 ∷ 0 ∷ [])
   -- the attributes alone: none; AREG 3 with ACASCREG 3 in slice 1; USE_MULT 2 in slice 0; a word too many
-  pub alone : (told (attributesAnswer 1 (replicate 21 0)) ≡ 0 ∷ 0 ∷ [])
-      × (told (attributesAnswer 2 (replicate 21 0 ++ (3 ∷ 0 ∷ 3 ∷ replicate 18 0))) ≡ 3 ∷ 1 ∷ [])
-      × (told (attributesAnswer 1 (replicate 16 0 ++ (2 ∷ replicate 4 0))) ≡ 3 ∷ 0 ∷ [])
-      × (told (attributesAnswer 1 (replicate 22 0)) ≡ 2 ∷ 0 ∷ [])
+  pub alone : (told (attributesAnswer 1 (plain 1)) ≡ 0 ∷ 0 ∷ [])
+      × (told (attributesAnswer 2 (plain 1 ++ set (set (plain 1) 0 3) 2 3)) ≡ 3 ∷ 1 ∷ [])
+      × (told (attributesAnswer 1 (set (plain 1) 16 2)) ≡ 3 ∷ 0 ∷ [])
+      × (told (attributesAnswer 1 (0 ∷ plain 1)) ≡ 2 ∷ 0 ∷ [])
 
 pub neighbours : Neighbours
-unfolding columnNext columnShown nextAt shownAt cascadeInto sliceNext nextOf edge load sliceOutputs sliceCascade outputsOfSettled cascadeOf sliceSettled settledOf resultOf sliceOperands operandsOf selectsOf productOf leftOf rightOf adOf aSide dSide controlsOf pathsOf unitResult arithmetic logicRows preAdder product detected unmasked
+unfolding columnNext columnShown nextAt shownAt cascadeInto sliceNext nextOf edge load sliceOutputs sliceCascade outputsOfSettled cascadeOf sliceSettled settledOf resultOf sliceOperands operandsOf selectsOf productOf leftOf rightOf adOf aSide dSide controlsOf pathsOf splitResult unitResult lanes arithmetic logicRows preAdder product detected unmasked
 neighbours = record { before-the-edge = refl; shown-before = refl }
 
 pub refused : Refused
@@ -75,6 +84,7 @@ refused =
       too-many = refl;
       a-word-short = refl;
       attribute = refl;
+      simd = (refl, refl, refl);
       register-first = refl;
       port = refl;
       inmode-first = refl;

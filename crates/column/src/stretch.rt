@@ -34,6 +34,7 @@ fn attributes_of(words: &[u64]) -> Attributes
         rnd: words[18],
         pattern: words[19],
         mask: words[20],
+        use_simd: words[21],
     }
 }
 

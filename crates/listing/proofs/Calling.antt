@@ -14,7 +14,7 @@ use Rattle.listing.specs.declared.machine.Run.{Run}
 use Rattle.listing.specs.Listing.{mostSlices, mostBytes, Play, working}
 use Rattle.listing.specs.Calls.{playerNumbers, playerOf, playerWords, Lent, lending, playOf, lentOf, lengthsFit, numbersFit, fitsBy, fits, lentAfter, goesAfter, outcomeOf, PiecePlayed}
 use Rattle.listing.specs.Parts.{Able, Frames, playing, Ran}
-use Rattle.listing.proofs.Keeps.{both-true}
+use Rattle.word.proofs.Laws.{both-true}
 
 -- ---- what is lent is a player's
 

@@ -10,7 +10,7 @@ use lib.Seq.{drop-drop}
 use borrow.Author.Tests.{lt-leb, le-leb}
 use Rattle.records.specs.Records.{attributeWords, portWords}
 use Rattle.column.proofs.Stacks.{part-count}
-use Rattle.text.specs.Numbers.{lineOf, isWell, wordsOf}
+use Rattle.text.specs.Numbers.{Numbers, lineOf, isWell, wordsOf}
 use Rattle.text.specs.Printed.{pasted}
 use Rattle.text.specs.Calls.{Taken}
 use Rattle.text.proofs.Paste.{pasted-length}
@@ -20,8 +20,9 @@ use Rattle.listing.specs.declared.player.Phase.the-variants.{Settings, C
 use Rattle.listing.specs.declared.player.Player.{Player}
 use Rattle.listing.specs.declared.player.Step.{Step}
 use Rattle.listing.specs.Steps.{oneMore, goesOn, refusal, groupStep, settingsStep, clockStep}
-use Rattle.listing.specs.Listing.{Left, leaving, settingsOf, clockOf, lineLeaves, portsLeave}
-use Rattle.listing.specs.Parts.{SettingsTaken, PortsTaken}
+use Rattle.listing.specs.Listing.{Left, leaving, settingsLine, settingsOf, clockOf, lineLeaves, portsLeave}
+use Rattle.listing.specs.Parts.{SettingsRead, SettingsTaken, PortsTaken}
+use Rattle.listing.proofs.SettingsLine.{settings-length}
 
 -- ---- the step of a line
 
@@ -48,29 +49,41 @@ stretch-room n k ws h l = omega (arith, mul-suc n k, mul-le-mul-left n h)
 abbrev pub put-at : (n k : ℕ) (ws got : List ℕ) → List ℕ
 put-at n k ws got = take (n * k) ws ++ (got ++ drop (n * k + n - n * k) (drop (n * k) ws))
 
--- a line that was read into the stretch of slice k
-pub record ReadIn (letter n k : ℕ) (line ws : List ℕ) (r : Bool) (got : List ℕ) : Type 0 where
-  pub well : isWell (lineOf letter n line) ≡ r
-  pub words : put-at n k ws got ≡ pasted (n * k) (wordsOf n (lineOf letter n line)) ws
+-- a line whose numbers were read into the stretch of slice k
+pub record ReadIn (x : Numbers) (n k : ℕ) (ws : List ℕ) (r : Bool) (got : List ℕ) : Type 0 where
+  pub well : isWell x ≡ r
+  pub words : put-at n k ws got ≡ pasted (n * k) (wordsOf n x) ws
   pub long : length (put-at n k ws got) ≡ length ws
 
-pub read-in : (letter n k : ℕ) (line ws : List ℕ) {r : Bool} {got : List ℕ} → k < 24 → length ws ≡ n * 24
-    → Taken letter line (take (n * k + n - n * k) (drop (n * k) ws)) r got → ReadIn letter n k line ws r got
-read-in letter n k line ws {r} {got} h l t =
-    let room = stretch-room n k ws h l in
-    let part : length (take (n * k + n - n * k) (drop (n * k) ws)) ≡ n = simp (length-take, length-drop) (omega arith) in
-    let new = wordsOf n (lineOf letter n line) in
-    let end : drop (n * k + n - n * k) (drop (n * k) ws) ≡ drop (n * k + length new) ws =
-    ap (λ (m : ℕ). drop m (drop (n * k) ws)) (part-count n k)
-    ∙ drop-drop n (n * k) ws
-    ∙ ap (λ (m : ℕ). drop (n * k + m) ws) (sym (words-length letter n line)) in
-    let words : put-at n k ws got ≡ pasted (n * k) new ws =
-    ap₂ (λ (a b : List ℕ). take (n * k) ws ++ (a ++ b)) (t .words ∙ ap (λ (m : ℕ). wordsOf m (lineOf letter m line)) part) end in
-    record {
-      well = sym (t .well ∙ ap (λ (m : ℕ). isWell (lineOf letter m line)) part);
-      words = words;
-      long = ap length words ∙ pasted-length (n * k) new ws (omega (arith, words-length letter n line));
-    }
+module _ (n k : ℕ) (ws : List ℕ) (h : k < 24) (l : length ws ≡ n * 24) where
+  -- what is lent of them
+  abbrev lent : List ℕ
+  lent = take (n * k + n - n * k) (drop (n * k) ws)
+
+  pub lent-length : length lent ≡ n
+  lent-length = let room = stretch-room n k ws h l in simp (length-take, length-drop) (omega arith)
+
+  pub read-in : (x : Numbers) {r : Bool} {got : List ℕ} → length (wordsOf n x) ≡ n → r ≡ isWell x → got ≡ wordsOf n x → ReadIn x n k ws r got
+  read-in x {got = got} long e f =
+      let end : drop (n * k + n - n * k) (drop (n * k) ws) ≡ drop (n * k + length (wordsOf n x)) ws =
+      ap (λ (m : ℕ). drop m (drop (n * k) ws)) (part-count n k) ∙ drop-drop n (n * k) ws ∙ ap (λ (m : ℕ). drop (n * k + m) ws) (sym long) in
+      let words : put-at n k ws got ≡ pasted (n * k) (wordsOf n x) ws = ap₂ (λ (a b : List ℕ). take (n * k) ws ++ (a ++ b)) f end in
+      record {
+        well = sym e;
+        words = words;
+        long = ap length words ∙ pasted-length (n * k) (wordsOf n x) ws (omega (arith, long, stretch-room n k ws h l));
+      }
+
+  -- a line of n numbers
+  pub line-in : (letter : ℕ) (line : List ℕ) {r : Bool} {got : List ℕ} → Taken letter line lent r got → ReadIn (lineOf letter n line) n k ws r got
+  line-in letter line t =
+      read-in (lineOf letter n line) (words-length letter n line) (t .well ∙ ap (λ (m : ℕ). isWell (lineOf letter m line)) lent-length)
+      (t .words ∙ ap (λ (m : ℕ). wordsOf m (lineOf letter m line)) lent-length)
+
+-- an `A` line whose numbers were read into the stretch of slice k
+pub settings-in : (k : ℕ) (ws : List ℕ) → k < 24 → length ws ≡ attributeWords * 24 → (line : List ℕ) {r : Bool} {got : List ℕ}
+    → SettingsRead line r got → ReadIn (settingsLine line) attributeWords k ws r got
+settings-in k ws h l line t = read-in attributeWords k ws h l (settingsLine line) (settings-length line) (t .well) (t .words)
 
 -- ---- what the lines leave, as one
 
@@ -81,7 +94,7 @@ module _ (q : Player) (line at rs ps os : List ℕ) (r : Step) where
   pub settings-left : (at′ : List ℕ) → SettingsTaken q line at r at′ → leaving r at′ rs ps os ≡ lineLeaves Settings q line at rs ps os
   settings-left at′ t =
       ap (λ (s : Step). leaving s at′ rs ps os) (t .step)
-      ∙ ap (λ (l : List ℕ). leaving (groupStep q (isWell (lineOf 65 attributeWords line)) (settingsStep q (settingsOf q l))) l rs ps os) (t .words)
+      ∙ ap (λ (l : List ℕ). leaving (groupStep q (isWell (settingsLine line)) (settingsStep q (settingsOf q l))) l rs ps os) (t .words)
 
   pub ports-left : (rs′ ps′ os′ : List ℕ) → PortsTaken q line at rs ps os r rs′ ps′ os′ → leaving r at rs′ ps′ os′ ≡ lineLeaves Clocks q line at rs ps os
   ports-left rs′ ps′ os′ t =

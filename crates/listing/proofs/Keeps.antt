@@ -1,6 +1,6 @@
 -- What a player's numbers keep to, from byte to byte. Assumes nothing.
 use mathlib.Core.Path.{_≡_, refl}
-use mathlib.Core.Bool.{Bool, true, false, cond, _&&_}
+use mathlib.Core.Bool.{Bool, true, false, cond}
 use mathlib.Core.List.{List, [], _∷_, _++_}
 use Prim.Native.Nat.{ℕ, suc, _+_, _<_}
 use native.Mathlib.Omega.{arith}
@@ -10,23 +10,20 @@ use borrow.Author.Tests.{leb-true, leb-false, eqb-false}
 use Rattle.column.specs.declared.Answer.{Answer}
 use Rattle.column.specs.Refusals.{numberOf, placeOf, countFits}
 use Rattle.text.specs.Numbers.{Numbers, isWell, wordsOf, lineOf}
+use Rattle.word.proofs.Laws.{both-true}
 use Rattle.records.specs.Records.{attributeWords, portWords}
 use Rattle.listing.specs.declared.player.Phase.{Phase}
 use Rattle.listing.specs.declared.player.Phase.the-variants.{Head, Settings, Clocks, Stopped}
 use Rattle.listing.specs.declared.player.Player.{Player}
 use Rattle.listing.specs.declared.player.Step.{Step}
 use Rattle.listing.specs.Steps.{counted, oneMore, named, goesOn, refusal, lastOfGroup, answered, headStep, groupStep, settingsStep, clockStep}
-use Rattle.listing.specs.Listing.{Play, Turn, working, lineTurn, partTurn, lineLeaves, byteTurn, settingsOf, clockOf, placed}
+use Rattle.listing.specs.Listing.{settingsLine, Play, Turn, working, lineTurn, partTurn, lineLeaves, byteTurn, settingsOf, clockOf, placed}
 use Rattle.listing.specs.Parts.{Fair, Able}
 
 -- what holds of both ways of a test holds of the step
 either : (P : Step → Type 0) (b : Bool) (s t : Step) → (b ≡ true → P s) → (b ≡ false → P t) → P (cond b s t)
 either P true s t f g = f refl
 either P false s t f g = g refl
-
-pub both-true : (a b : Bool) → a && b ≡ true → (a ≡ true) × (b ≡ true)
-both-true true b e = (refl, e)
-both-true false b e = let z : false ≡ true = e in (cc, cc)
 
 -- a player that has counted its line, and can run one clock more
 abbrev Goes : (n : ℕ) → Step → Type 0
@@ -76,7 +73,7 @@ module _ (q : Player) (n : ℕ) (fair : Fair q) (clocks : q .clocks + suc n < 18
   line-goes : (f : Phase) (line at rs ps os : List ℕ) → Goes n (lineLeaves f q line at rs ps os .step)
   line-goes Head line at rs ps os = head-goes (lineOf 78 1 line)
   line-goes Settings line at rs ps os =
-      group-goes (isWell (lineOf 65 attributeWords line)) _ (settings-go (settingsOf q (placed attributeWords q (lineOf 65 attributeWords line) at)))
+      group-goes (isWell (settingsLine line)) _ (settings-go (settingsOf q (placed attributeWords q (settingsLine line) at)))
   line-goes Clocks line at rs ps os =
       group-goes (isWell (lineOf 80 portWords line)) _ (clock-goes (clockOf q at rs (placed portWords q (lineOf 80 portWords line) ps) os))
   line-goes Stopped line at rs ps os = record { fair = fair; clocks = omega arith; lines = lines }

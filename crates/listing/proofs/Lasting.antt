@@ -15,7 +15,7 @@ use Rattle.column.specs.Column.{nextAt, shownAt, columnNext, columnShown}
 use Rattle.column.specs.Calls.{leaves}
 use Rattle.column.proofs.Stacks.{stacked-length}
 use Rattle.column.proofs.Edges.{next-length, shown-length}
-use Rattle.text.specs.Numbers.{lineOf, isWell, wordsOf}
+use Rattle.text.specs.Numbers.{Numbers, lineOf, isWell, wordsOf}
 use Rattle.text.specs.Printed.{pasted}
 use Rattle.text.proofs.Paste.{pasted-length}
 use Rattle.text.proofs.Lines.{words-length}
@@ -23,9 +23,10 @@ use Rattle.listing.specs.declared.player.Phase.{Phase}
 use Rattle.listing.specs.declared.player.Phase.the-variants.{Head, Settings, Clocks, Stopped}
 use Rattle.listing.specs.declared.player.Player.{Player}
 use Rattle.listing.specs.Steps.{counted, lastOfGroup}
-use Rattle.listing.specs.Listing.{mostBytes, Play, Turn, Left, placed, clockOf, clockedRegisters, clockedOutputs, lineLeaves, lineTurn, partTurn, working, byteTurn, start}
+use Rattle.listing.specs.Listing.{settingsLine, mostBytes, Play, Turn, Left, placed, clockOf, clockedRegisters, clockedOutputs, lineLeaves, lineTurn, partTurn, working, byteTurn, start}
 use Rattle.listing.specs.Calls.{playOf, lentOf, fitsBy, fits, clockRoom, nothing, further, played}
 use Rattle.listing.specs.Parts.{Fair, Able, Words, Frames}
+use Rattle.listing.proofs.SettingsLine.{settings-length}
 use Rattle.listing.proofs.Groups.{stretch-room}
 use Rattle.listing.proofs.Keeps.{byte-goes}
 use Rattle.listing.proofs.Clocks.{within}
@@ -39,12 +40,9 @@ pub record Good (p : Play) (n : ℕ) : Type 0 where
 -- ---- a line keeps the lengths
 
 -- a line's numbers take the place of as many
-placed-keeps : (letter n : ℕ) (q : Player) (line ws : List ℕ) → q .given < 24 → length ws ≡ n * 24
-    → length (placed n q (lineOf letter n line) ws) ≡ n * 24
-placed-keeps letter n q line ws h l =
-    pasted-length (n * q .given) (wordsOf n (lineOf letter n line)) ws
-    (omega (arith, words-length letter n line, stretch-room n (q .given) ws h l))
-    ∙ l
+placed-keeps : (n : ℕ) (q : Player) (x : Numbers) (ws : List ℕ) → length (wordsOf n x) ≡ n → q .given < 24 → length ws ≡ n * 24
+    → length (placed n q x ws) ≡ n * 24
+placed-keeps n q x ws long h l = pasted-length (n * q .given) (wordsOf n x) ws (omega (arith, long, stretch-room n (q .given) ws h l)) ∙ l
 
 -- what a clock leaves takes the place of as many
 leaves-keeps : (a : Answer) (new ws : List ℕ) → length new ≤ length ws → length (leaves a (pasted 0 new ws) ws) ≡ length ws
@@ -89,7 +87,7 @@ line-keeps : (f : Phase) (q : Player) (line at rs ps os : List ℕ) → Fair q �
 line-keeps Head q line at rs ps os h w = w
 line-keeps Settings q line at rs ps os h w =
     record {
-      attributes = placed-keeps 65 attributeWords q line at (h .given) (w .attributes);
+      attributes = placed-keeps attributeWords q (settingsLine line) at (settings-length line) (h .given) (w .attributes);
       registers = w .registers;
       ports = w .ports;
       outputs = w .outputs;
@@ -102,7 +100,7 @@ line-keeps Clocks q line at rs ps os h w =
       registers =
           choose-length (isWell x && lastOfGroup q) (clockedRegisters q at rs ps′ os) rs (registerWords * 24)
           (registers-keep q at rs ps′ os (h .count) (w .registers)) (w .registers);
-      ports = placed-keeps 80 portWords q line ps (h .given) (w .ports);
+      ports = placed-keeps portWords q x ps (words-length 80 portWords line) (h .given) (w .ports);
       outputs =
           choose-length (isWell x && lastOfGroup q) (clockedOutputs q at rs ps′ os) os (outputWords * 24)
           (outputs-keep q at rs ps′ os (h .count) (w .outputs)) (w .outputs);

@@ -1,4 +1,5 @@
 pub mod Printing
+pub mod SettingsLine
 pub mod Groups
 pub mod Keeps
 pub mod Clocks

@@ -7,6 +7,7 @@ use native.Mathlib.Omega.{arith}
 use lib.Dec.{leb, ltb}
 use lib.ListN.{length, take, getD}
 use borrow.Author.Tests.{ltb-false, leb-false, ltb-true, leb-true}
+use Rattle.word.proofs.Laws.{both-true}
 use Rattle.text.specs.Printed.{Put}
 use Rattle.listing.specs.declared.player.Player.{Player}
 use Rattle.listing.specs.declared.player.Step.{Step}
@@ -15,7 +16,7 @@ use Rattle.listing.specs.Listing.{Play, Turn, leaving, turnOf, byteTurn}
 use Rattle.listing.specs.Calls.{Outcome, clockRoom, played}
 use Rattle.listing.specs.Parts.{Able, Frames, playing, Ran}
 use Rattle.listing.proofs.Printing.{event-length}
-use Rattle.listing.proofs.Keeps.{both-true, byte-goes}
+use Rattle.listing.proofs.Keeps.{byte-goes}
 use Rattle.listing.proofs.Pieces.{SoFar, one-byte, all-taken, no-room, printed-so-far}
 
 -- what the loop's test says

@@ -9,7 +9,7 @@ use Rattle.column.specs.declared.Answer.{Answer}
 use Rattle.column.specs.Column.{columnNext, columnShown}
 use Rattle.column.specs.Refusals.{attributesAnswer, clockAnswer}
 use Rattle.column.specs.Calls.{leaves}
-use Rattle.text.specs.Numbers.{Numbers, lineOf, isWell, wordsOf}
+use Rattle.text.specs.Numbers.{Numbers, values, malformed, lineOf, isWell, wordsOf}
 use Rattle.text.specs.Printed.{pasted}
 use Rattle.listing.specs.declared.player.Phase.{Phase}
 use Rattle.listing.specs.declared.player.Phase.the-variants.{Head, Settings, Clocks, Stopped}
@@ -86,7 +86,25 @@ clockedOutputs q at rs ps os =
 abbrev pub headLeaves : Player → Numbers → (at rs ps os : List ℕ) → Left
 headLeaves q x at rs ps os = leaving (headStep q x) at rs ps os
 
--- "then one `A` line of 21 numbers a slice": at has the line's numbers already
+-- ---- `A` lines: "one `A` line of 21 numbers a slice" (01), or of 22 (02, "Split adder")
+
+-- the attributes that 01 has; a line of them alone says 0 for the rest
+abbrev pub firstAttributes : ℕ
+firstAttributes = 21
+
+abbrev pub withZeros : (k : ℕ) → Numbers → Numbers
+withZeros k (values ws) = values (ws ++ replicate k 0)
+withZeros k malformed = malformed
+
+-- the first reading, or the second where the first is malformed
+abbrev pub orElse : Numbers → Numbers → Numbers
+orElse (values ws) y = values ws
+orElse malformed y = y
+
+unfoldable pub settingsLine : (line : List ℕ) → Numbers
+settingsLine line = orElse (lineOf 65 attributeWords line) (withZeros 1 (lineOf 65 firstAttributes line))
+
+-- at has the line's numbers already
 abbrev pub settingsLeaves : Player → Numbers → (at rs ps os : List ℕ) → Left
 settingsLeaves q x at rs ps os = leaving (groupStep q (isWell x) (settingsStep q (settingsOf q at))) at rs ps os
 
@@ -104,7 +122,7 @@ portsLeave q x at rs ps os =
 abbrev pub lineLeaves : Phase → Player → (line at rs ps os : List ℕ) → Left
 lineLeaves Head q line at rs ps os = headLeaves q (lineOf 78 1 line) at rs ps os
 lineLeaves Settings q line at rs ps os =
-    settingsLeaves q (lineOf 65 attributeWords line) (placed attributeWords q (lineOf 65 attributeWords line) at) rs ps os
+    settingsLeaves q (settingsLine line) (placed attributeWords q (settingsLine line) at) rs ps os
 lineLeaves Clocks q line at rs ps os =
     portsLeave q (lineOf 80 portWords line) at rs (placed portWords q (lineOf 80 portWords line) ps) os
 lineLeaves Stopped q line at rs ps os = leaving (goesOn q) at rs ps os

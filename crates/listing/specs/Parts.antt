@@ -1,17 +1,17 @@
 -- What the parts of the code promise one another; no caller needs it. Assumes nothing.
 use Prim.Native.Nat.{ℕ, _+_, _*_, _≤_, _<_}
 use mathlib.Core.Path.{_≡_}
-use mathlib.Core.Bool.{cond, _&&_}
+use mathlib.Core.Bool.{Bool, cond, _&&_}
 use mathlib.Core.List.{List}
 use lib.ListN.{length}
 use Rattle.records.specs.Records.{attributeWords, registerWords, portWords, outputWords}
-use Rattle.text.specs.Numbers.{lineOf, isWell}
+use Rattle.text.specs.Numbers.{lineOf, isWell, wordsOf}
 use Rattle.text.specs.Printed.{Put}
 use Rattle.listing.specs.declared.player.Player.{Player}
 use Rattle.listing.specs.declared.player.Step.{Step}
 use Rattle.listing.specs.declared.machine.Run.{Run}
 use Rattle.listing.specs.Steps.{lastOfGroup, groupStep, settingsStep, clockStep}
-use Rattle.listing.specs.Listing.{Play, placed, settingsOf, clockOf, clockedRegisters, clockedOutputs}
+use Rattle.listing.specs.Listing.{Play, placed, settingsLine, settingsOf, clockOf, clockedRegisters, clockedOutputs}
 use Rattle.listing.specs.Calls.{played}
 
 -- a player's numbers are in range
@@ -45,9 +45,14 @@ pub record Frames (at rs ps os bytes : List ℕ) : Type 0 where
 
 -- ---- what the lines leave
 
+-- an `A` line's numbers, read into a slice's words
+pub record SettingsRead (line : List ℕ) (r : Bool) (into′ : List ℕ) : Type 0 where
+  pub well : r ≡ isWell (settingsLine line)
+  pub words : into′ ≡ wordsOf attributeWords (settingsLine line)
+
 pub record SettingsTaken (q : Player) (line at : List ℕ) (r : Step) (at′ : List ℕ) : Type 0 where
-  pub words : at′ ≡ placed attributeWords q (lineOf 65 attributeWords line) at
-  pub step : r ≡ groupStep q (isWell (lineOf 65 attributeWords line)) (settingsStep q (settingsOf q at′))
+  pub words : at′ ≡ placed attributeWords q (settingsLine line) at
+  pub step : r ≡ groupStep q (isWell (settingsLine line)) (settingsStep q (settingsOf q at′))
 
 pub record ClockTaken (q : Player) (at rs ps os : List ℕ) (r : Step) (rs′ os′ : List ℕ) : Type 0 where
   pub step : r ≡ clockStep q (clockOf q at rs ps os)

@@ -9,6 +9,11 @@ mod machine;
 mod player;
 mod print;
 
+use column::Attributes;
+use column::Outputs;
+use column::Ports;
+use column::Registers;
+
 // What a piece led to: the bytes of it that were taken, the bytes that were printed, and whether there is more to play.
 pub struct Played {
     pub used: usize,
@@ -19,13 +24,13 @@ pub struct Played {
 // How many words and bytes a player is lent: its numbers, the words of 24 slices, and the bytes of a line.
 pub const NUMBERS: usize = 6;
 
-pub const ATTRIBUTES: usize = 504;
+pub const ATTRIBUTES: usize = Attributes::WORDS * 24;
 
-pub const REGISTERS: usize = 432;
+pub const REGISTERS: usize = Registers::WORDS * 24;
 
-pub const PORTS: usize = 264;
+pub const PORTS: usize = Ports::WORDS * 24;
 
-pub const OUTPUTS: usize = 120;
+pub const OUTPUTS: usize = Outputs::WORDS * 24;
 
 pub const LINE: usize = 512;
 

@@ -6,7 +6,7 @@ ghost use Rattle.records.specs.Records.{attributeWords};
 ghost use Rattle.text.specs.Numbers.{lineOf};
 ghost use Rattle.listing.specs.Steps.{goesOn, answered, headStep};
 ghost use Rattle.listing.specs.Listing.{leaving, lineLeaves};
-ghost use Rattle.listing.specs.Parts.{Fair, Clockable, Words, SettingsTaken, ClockTaken, PortsTaken};
+ghost use Rattle.listing.specs.Parts.{Fair, Clockable, Words, SettingsRead, SettingsTaken, ClockTaken, PortsTaken};
 use crate::player::Event;
 use crate::player::Phase;
 use crate::player::Player;
@@ -57,13 +57,27 @@ fn take_head(q: Player, line: &[u8]) -> Step
     quiet(q.named(count as usize))
 }
 
+// The attributes that a line has that does not name USE_SIMD.
+const FIRST_ATTRIBUTES: usize = 21;
+
+// The numbers of an `A` line: all of a slice's attributes, or the first of them, and 0 for the rest.
+fn read_settings(line: &[u8], into: &mut [u64]) -> bool
+    requires { ⌜ length (now into) ≡ attributeWords ⌝ }
+    ensures { λ r. ⌜ SettingsRead (now (line .entry)) r (now (into .exit)) ⌝ }
+{
+    if text::line(line, 65, into) {
+        return true;
+    }
+    text::line(line, 65, &mut into[..FIRST_ATTRIBUTES])
+}
+
 // An `A` line. Number 3 is checked after the last of them.
 fn take_settings(q: Player, line: &[u8], attributes: &mut [u64]) -> Step
     requires { ⌜ Fair q × (length (now attributes) ≡ attributeWords * 24) ⌝ }
     ensures { λ r. ⌜ SettingsTaken q (now (line .entry)) (now (attributes .entry)) r (now (attributes .exit)) ⌝ }
 {
     let a = Attributes::WORDS * q.given;
-    if !text::line(line, 65, &mut attributes[a..a + Attributes::WORDS]) {
+    if !read_settings(line, &mut attributes[a..a + Attributes::WORDS]) {
         return q.refused(12, q.lines);
     }
     let count = q.count;

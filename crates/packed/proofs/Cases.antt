@@ -8,7 +8,7 @@ use lib.IntN.{ℤ, pos, negsuc}
 use lib.Signed.{shrZ}
 use Rattle.word.specs.Word.{word, signed, shifted, highSum, lowSum}
 use Rattle.unit.specs.Choice.{bit}
-use Rattle.unit.specs.Unit.{ones, arithmetic, logicRows, unitResult, preAdder, product, load}
+use Rattle.unit.specs.Unit.{ones, arithmetic, lanes, logicRows, unitResult, splitResult, preAdder, product, load}
 use Rattle.unit.specs.Detector.{unmasked, detected}
 use Rattle.slice.specs.Slice.{controlsOf, selectsOf, pathsOf, aSide, dSide, adOf, leftOf, rightOf, productOf, operandsOf, sliceOperands, resultOf, settledOf, sliceSettled, outputsOfSettled, cascadeOf, edge, nextOf, sliceOutputs, sliceCascade, sliceNext}
 use Rattle.column.specs.Column.{cascadeInto, shownAt, nextAt, columnShown, columnNext, after}
@@ -53,7 +53,7 @@ pub record Cases : Type 0 where
   pub case12 : (highSum (row 7 lowest lowest lowest) ≡ pos 114688) × (lowSum (row 7 lowest lowest lowest) ≡ pos 114688)
 
 pub cases : Cases
-unfolding top fed runAttributes runPorts runRegisters after columnShown columnNext shownAt nextAt cascadeInto sliceNext sliceOutputs sliceCascade nextOf edge load outputsOfSettled cascadeOf sliceSettled settledOf resultOf sliceOperands operandsOf selectsOf controlsOf pathsOf productOf leftOf rightOf adOf aSide dSide unitResult arithmetic logicRows preAdder product detected unmasked
+unfolding top fed runAttributes runPorts runRegisters after columnShown columnNext shownAt nextAt cascadeInto sliceNext sliceOutputs sliceCascade nextOf edge load outputsOfSettled cascadeOf sliceSettled settledOf resultOf sliceOperands operandsOf selectsOf controlsOf pathsOf productOf leftOf rightOf adOf aSide dSide splitResult unitResult lanes arithmetic logicRows preAdder product detected unmasked
 cases =
     record {
       case1 = refl;
@@ -83,5 +83,5 @@ pub record Slips : Type 0 where
   pub minus-five : (word 48 (negsuc 4) % 2 ^ 4 ≡ 11) × (word 48 (negsuc 5) % 2 ^ 4 ≡ 10)
 
 pub slips : Slips
-unfolding top fed runAttributes runPorts runRegisters after columnShown columnNext shownAt nextAt cascadeInto sliceNext sliceOutputs sliceCascade nextOf edge load outputsOfSettled cascadeOf sliceSettled settledOf resultOf sliceOperands operandsOf selectsOf controlsOf pathsOf productOf leftOf rightOf adOf aSide dSide unitResult arithmetic preAdder product detected unmasked
+unfolding top fed runAttributes runPorts runRegisters after columnShown columnNext shownAt nextAt cascadeInto sliceNext sliceOutputs sliceCascade nextOf edge load outputsOfSettled cascadeOf sliceSettled settledOf resultOf sliceOperands operandsOf selectsOf controlsOf pathsOf productOf leftOf rightOf adOf aSide dSide splitResult unitResult lanes arithmetic preAdder product detected unmasked
 slips = record { before-the-edge = refl; mode-3-takes-cin = refl; shift-keeps-sign = refl; with-bit-17 = (refl, refl); minus-five = (refl, refl) }

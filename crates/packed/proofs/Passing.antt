@@ -11,7 +11,7 @@ use lib.ListN.{length}
 use borrow.Author.Tests.{leb-true, eqb-true}
 use types.Run.{OneOf}
 use denote.Enum.Declared.{tagOf}
-use Rattle.column.proofs.Answers.{both-true}
+use Rattle.word.proofs.Laws.{both-true}
 use Rattle.packed.specs.declared.Run.{Run}
 use Rattle.packed.specs.declared.Run.the-variants.{Ran, BadTerms, BadRows, BadLength}
 use Rattle.packed.specs.Packed.{mostTerms, mostRows, Batch}

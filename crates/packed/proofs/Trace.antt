@@ -9,6 +9,7 @@ use lib.ListN.{getD, replicate}
 use lib.IntN.{ℤ, pos, _*ℤ_}
 use Rattle.word.specs.Word.{word, extend}
 use Rattle.unit.specs.Unit.{arithmetic, unitResult, preAdder, product, load}
+use Rattle.unit.proofs.Lanes.{one48}
 use Rattle.records.specs.declared.Registers.{Registers}
 use Rattle.slice.specs.declared.inputs.Cascade.{Cascade}
 use Rattle.records.specs.Records.{attributeWords, registerWords, portWords, outputWords, attributesWords, registersOf, registersWords, portsWords}
@@ -70,7 +71,8 @@ module _ (g : Batch) where
   pub four-on : (t k : ℕ) → trace (suc (suc (suc (suc t)))) k .p
       ≡ word 48 (pos (below (trace (suc (suc (suc t)))) k .p + 0 + productWord (fed g (g .a) t k) (fed g (g .d) t k) (fed g (g .b) t k) + 0 + 0))
   unfolding trace sliceNext nextOf edge load sliceSettled settledOf resultOf unitResult arithmetic sliceOperands operandsOf selectsOf controlsOf pathsOf productOf leftOf rightOf adOf aSide dSide
-  four-on t k = refl
+  four-on t k =
+      one48 0 0 (productWord (fed g (g .a) t k) (fed g (g .d) t k) (fed g (g .b) t k)) 0 (below (trace (suc (suc (suc t)))) k .p) 0
 
   -- slice k shows its register P
   shows : (t k : ℕ) → k < g .terms → getD (shownAt (runAttributes (g .terms)) (traced t) (runPorts g t) k) 0 0 ≡ trace t k .p

@@ -5,7 +5,7 @@ use mathlib.Core.Bool.{true, false}
 use mathlib.Core.List.{[], _∷_}
 use lib.ListN.{replicate}
 use lib.IntN.{pos, negsuc}
-use Rattle.unit.specs.Unit.{arithmetic, unitResult, preAdder, product, load}
+use Rattle.unit.specs.Unit.{arithmetic, lanes, unitResult, splitResult, preAdder, product, load}
 use Rattle.unit.specs.Detector.{unmasked, detected}
 use Rattle.slice.specs.Slice.{controlsOf, selectsOf, pathsOf, aSide, dSide, adOf, leftOf, rightOf, productOf, operandsOf, sliceOperands, resultOf, settledOf, sliceSettled, outputsOfSettled, cascadeOf, edge, nextOf, sliceOutputs, sliceCascade, sliceNext}
 use Rattle.column.specs.Column.{cascadeInto, shownAt, nextAt, columnShown, columnNext, after}
@@ -49,7 +49,7 @@ pub record Refused : Type 0 where
   pub plain-steps-none : clocksOf (plainRun (zeros 7 1) (replicate 2 (pos 0))) ≡ 0
 
 pub runs : Runs
-unfolding runList top fed runAttributes runPorts runRegisters pairs dot after columnShown columnNext shownAt nextAt cascadeInto sliceNext sliceOutputs sliceCascade nextOf edge load outputsOfSettled cascadeOf sliceSettled settledOf resultOf sliceOperands operandsOf selectsOf controlsOf pathsOf productOf leftOf rightOf adOf aSide dSide unitResult arithmetic preAdder product detected unmasked
+unfolding runList top fed runAttributes runPorts runRegisters pairs dot after columnShown columnNext shownAt nextAt cascadeInto sliceNext sliceOutputs sliceCascade nextOf edge load outputsOfSettled cascadeOf sliceSettled settledOf resultOf sliceOperands operandsOf selectsOf controlsOf pathsOf productOf leftOf rightOf adOf aSide dSide splitResult unitResult lanes arithmetic preAdder product detected unmasked
 runs = record { list = refl; sums = refl; slice-0 = (refl, refl, refl); slice-1 = (refl, refl, refl, refl) }
 
 pub refused : Refused

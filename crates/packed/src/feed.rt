@@ -35,6 +35,7 @@ fn slice_setting() -> Attributes
         rnd: 0,
         pattern: 0,
         mask: 0,
+        use_simd: 0,
     }
 }
 

@@ -8,9 +8,9 @@ use Rattle.records.specs.declared.Registers.{Registers}
 use Rattle.records.specs.declared.Ports.{Ports}
 use Rattle.records.specs.declared.Outputs.{Outputs}
 
--- Attributes 21, registers 18, ports 11, outputs 5 a slice
+-- Attributes 22 (02, "Split adder"), registers 18, ports 11, outputs 5 a slice
 abbrev pub attributeWords : ℕ
-attributeWords = 21
+attributeWords = 22
 
 abbrev pub registerWords : ℕ
 registerWords = 18
@@ -21,9 +21,9 @@ portWords = 11
 abbrev pub outputWords : ℕ
 outputWords = 5
 
--- The width of every word, in one table a record. AREG, BREG and the CASCREGs have two bits, and their list beside (Legal, `listed`)
+-- The width of every word, in one table a record. AREG, BREG, the CASCREGs and USE_SIMD have two bits, and their list beside (Legal, `listed`, `splitFits`)
 abbrev pub attributeWidths : List ℕ
-attributeWidths = 2 ∷ 2 ∷ 2 ∷ 2 ∷ 1 ∷ 1 ∷ 1 ∷ 1 ∷ 1 ∷ 1 ∷ 1 ∷ 1 ∷ 1 ∷ 1 ∷ 1 ∷ 1 ∷ 1 ∷ 1 ∷ 48 ∷ 48 ∷ 48 ∷ []
+attributeWidths = 2 ∷ 2 ∷ 2 ∷ 2 ∷ 1 ∷ 1 ∷ 1 ∷ 1 ∷ 1 ∷ 1 ∷ 1 ∷ 1 ∷ 1 ∷ 1 ∷ 1 ∷ 1 ∷ 1 ∷ 1 ∷ 48 ∷ 48 ∷ 48 ∷ 2 ∷ []
 
 abbrev pub registerWidths : List ℕ
 registerWidths = 30 ∷ 30 ∷ 18 ∷ 18 ∷ 48 ∷ 27 ∷ 27 ∷ 45 ∷ 48 ∷ 9 ∷ 4 ∷ 5 ∷ 3 ∷ 1 ∷ 1 ∷ 1 ∷ 1 ∷ 1 ∷ []
@@ -60,6 +60,7 @@ attributesOf ws =
       rnd = getD ws 18 0;
       pattern = getD ws 19 0;
       mask = getD ws 20 0;
+      «use_simd» = getD ws 21 0;
     }
 
 abbrev pub attributesWords : Attributes → List ℕ
@@ -85,6 +86,7 @@ attributesWords r =
     ∷ r .rnd
     ∷ r .pattern
     ∷ r .mask
+    ∷ r .«use_simd»
     ∷ []
 
 abbrev pub registersOf : List ℕ → Registers

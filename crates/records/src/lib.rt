@@ -27,10 +27,11 @@ pub struct Attributes {
     pub rnd: u64,
     pub pattern: u64,
     pub mask: u64,
+    pub use_simd: u64,
 }
 
 impl Attributes {
-    pub const WORDS: usize = 21;
+    pub const WORDS: usize = 22;
     // The width of every word, in the words' order.
     pub const WIDTHS: [u64; Attributes::WORDS] = [
         2,
@@ -54,6 +55,7 @@ impl Attributes {
         48,
         48,
         48,
+        2,
     ];
 
     // Every word 0.
@@ -82,6 +84,7 @@ impl Attributes {
             rnd: 0,
             pattern: 0,
             mask: 0,
+            use_simd: 0,
         }
     }
 
@@ -110,6 +113,7 @@ impl Attributes {
             self.rnd,
             self.pattern,
             self.mask,
+            self.use_simd,
         ]
     }
 }

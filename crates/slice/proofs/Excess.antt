@@ -38,7 +38,8 @@ ors-below n x (y ∷ ys) h =
 step-down : (k n x : ℕ) (ys : List ℕ) → ors x ys / 2 ^ k < n → (x < n * 2 ^ k) × Below (n * 2 ^ k) ys
 step-down k n x ys h = ors-below (n * 2 ^ k) x ys (div-lt-iff-lt-mul (pow-pos k) .0 h)
 
-module _ (a : Attributes) (r : Registers) (p : Ports) where
+-- with a mark that is to be below 4
+module _ (a : Attributes) (r : Registers) (p : Ports) (mark : ℕ) where
   abbrev over-45 : ℕ
   over-45 = ors (a .rnd) (a .pattern ∷ a .mask ∷ r .c ∷ r .p ∷ p .c ∷ []) / 2 ^ 3
 
@@ -73,16 +74,16 @@ module _ (a : Attributes) (r : Registers) (p : Ports) where
   over-2 = ors over-3 (r .carryinsel ∷ p .carryinsel ∷ []) / 2 ^ 1
 
   abbrev over-1 : ℕ
-  over-1 = ors over-2 (a .areg ∷ a .breg ∷ a .acascreg ∷ a .bcascreg ∷ []) / 2 ^ 1
+  over-1 = ors over-2 (a .areg ∷ a .breg ∷ a .acascreg ∷ a .bcascreg ∷ a .«use_simd» ∷ mark ∷ []) / 2 ^ 1
 
   abbrev pub excess-of : ℕ
   excess-of = ors over-1 (a .«a_input» ∷ a .«b_input» ∷ a .creg ∷ a .dreg ∷ a .adreg ∷ a .mreg ∷ a .preg ∷ a .opmodereg ∷ a .alumodereg ∷ a .inmodereg ∷ a .carryinreg ∷ a .carryinselreg ∷ a .«use_mult» ∷ a .amultsel ∷ r .carryin ∷ p .carryin ∷ r .pd ∷ r .pbd ∷ r .pdpast ∷ r .pbdpast ∷ []) / 2 ^ 1
 
-  pub excess-within : excess-of ≡ 0 → Within a r p
+  pub excess-within : excess-of ≡ 0 → Within a r p × (mark < 4)
   excess-within e =
       let none-over : excess-of < 1 = omega arith in
       let below-1 = step-down 1 (2 ^ 0) over-1 (a .«a_input» ∷ a .«b_input» ∷ a .creg ∷ a .dreg ∷ a .adreg ∷ a .mreg ∷ a .preg ∷ a .opmodereg ∷ a .alumodereg ∷ a .inmodereg ∷ a .carryinreg ∷ a .carryinselreg ∷ a .«use_mult» ∷ a .amultsel ∷ r .carryin ∷ p .carryin ∷ r .pd ∷ r .pbd ∷ r .pdpast ∷ r .pbdpast ∷ []) none-over in
-      let below-2 = step-down 1 (2 ^ 1) over-2 (a .areg ∷ a .breg ∷ a .acascreg ∷ a .bcascreg ∷ []) (below-1 .0) in
+      let below-2 = step-down 1 (2 ^ 1) over-2 (a .areg ∷ a .breg ∷ a .acascreg ∷ a .bcascreg ∷ a .«use_simd» ∷ mark ∷ []) (below-1 .0) in
       let below-3 = step-down 1 (2 ^ 2) over-3 (r .carryinsel ∷ p .carryinsel ∷ []) (below-2 .0) in
       let below-4 = step-down 1 (2 ^ 3) over-4 (r .alumode ∷ p .alumode ∷ []) (below-3 .0) in
       let below-5 = step-down 1 (2 ^ 4) over-5 (r .inmode ∷ p .inmode ∷ []) (below-4 .0) in
@@ -93,9 +94,11 @@ module _ (a : Attributes) (r : Registers) (p : Ports) where
       let below-27 = step-down 9 (2 ^ 18) over-27 (r .d ∷ r .ad ∷ p .d ∷ []) (below-18 .0) in
       let below-30 = step-down 3 (2 ^ 27) over-30 (r .a1 ∷ r .a2 ∷ p .a ∷ []) (below-27 .0) in
       let below-45 = step-down 15 (2 ^ 30) over-45 (r .m ∷ []) (below-30 .0) in
-      let below-48 = step-down 3 (2 ^ 45) (a .rnd) (a .pattern ∷ a .mask ∷ r .c ∷ r .p ∷ p .c ∷ []) (below-45 .0) in
-      record {
-        attributes = more (below-2 .1 .0) (more (below-2 .1 .1 .0) (more (below-2 .1 .1 .1 .0) (more (below-2 .1 .1 .1 .1 .0) (more (below-1 .1 .0) (more (below-1 .1 .1 .0) (more (below-1 .1 .1 .1 .0) (more (below-1 .1 .1 .1 .1 .0) (more (below-1 .1 .1 .1 .1 .1 .0) (more (below-1 .1 .1 .1 .1 .1 .1 .0) (more (below-1 .1 .1 .1 .1 .1 .1 .1 .0) (more (below-1 .1 .1 .1 .1 .1 .1 .1 .1 .0) (more (below-1 .1 .1 .1 .1 .1 .1 .1 .1 .1 .0) (more (below-1 .1 .1 .1 .1 .1 .1 .1 .1 .1 .1 .0) (more (below-1 .1 .1 .1 .1 .1 .1 .1 .1 .1 .1 .1 .0) (more (below-1 .1 .1 .1 .1 .1 .1 .1 .1 .1 .1 .1 .1 .0) (more (below-1 .1 .1 .1 .1 .1 .1 .1 .1 .1 .1 .1 .1 .1 .0) (more (below-1 .1 .1 .1 .1 .1 .1 .1 .1 .1 .1 .1 .1 .1 .1 .0) (more (below-48 .0) (more (below-48 .1 .0) (more (below-48 .1 .1 .0) none))))))))))))))))))));
-        registers = more (below-30 .1 .0) (more (below-30 .1 .1 .0) (more (below-18 .1 .0) (more (below-18 .1 .1 .0) (more (below-48 .1 .1 .1 .0) (more (below-27 .1 .0) (more (below-27 .1 .1 .0) (more (below-45 .1 .0) (more (below-48 .1 .1 .1 .1 .0) (more (below-9 .1 .0) (more (below-4 .1 .0) (more (below-5 .1 .0) (more (below-3 .1 .0) (more (below-1 .1 .1 .1 .1 .1 .1 .1 .1 .1 .1 .1 .1 .1 .1 .1 .0) (more (below-1 .1 .1 .1 .1 .1 .1 .1 .1 .1 .1 .1 .1 .1 .1 .1 .1 .1 .0) (more (below-1 .1 .1 .1 .1 .1 .1 .1 .1 .1 .1 .1 .1 .1 .1 .1 .1 .1 .1 .0) (more (below-1 .1 .1 .1 .1 .1 .1 .1 .1 .1 .1 .1 .1 .1 .1 .1 .1 .1 .1 .1 .0) (more (below-1 .1 .1 .1 .1 .1 .1 .1 .1 .1 .1 .1 .1 .1 .1 .1 .1 .1 .1 .1 .1 .0) none)))))))))))))))));
-        ports = more (below-30 .1 .1 .1 .0) (more (below-18 .1 .1 .1 .0) (more (below-48 .1 .1 .1 .1 .1 .0) (more (below-27 .1 .1 .1 .0) (more (below-9 .1 .1 .0) (more (below-4 .1 .1 .0) (more (below-5 .1 .1 .0) (more (below-3 .1 .1 .0) (more (below-1 .1 .1 .1 .1 .1 .1 .1 .1 .1 .1 .1 .1 .1 .1 .1 .1 .0) (more (below-13 .1 .0) (more (below-10 .1 .0) none))))))))));
-      }
+      let below-48 = step-down 3 (2 ^ 45) (a .rnd) (a .pattern ∷ a .mask ∷ r .c ∷ r .p ∷ p .c ∷ []) (below-45 .0) in (
+        record {
+          attributes = more (below-2 .1 .0) (more (below-2 .1 .1 .0) (more (below-2 .1 .1 .1 .0) (more (below-2 .1 .1 .1 .1 .0) (more (below-1 .1 .0) (more (below-1 .1 .1 .0) (more (below-1 .1 .1 .1 .0) (more (below-1 .1 .1 .1 .1 .0) (more (below-1 .1 .1 .1 .1 .1 .0) (more (below-1 .1 .1 .1 .1 .1 .1 .0) (more (below-1 .1 .1 .1 .1 .1 .1 .1 .0) (more (below-1 .1 .1 .1 .1 .1 .1 .1 .1 .0) (more (below-1 .1 .1 .1 .1 .1 .1 .1 .1 .1 .0) (more (below-1 .1 .1 .1 .1 .1 .1 .1 .1 .1 .1 .0) (more (below-1 .1 .1 .1 .1 .1 .1 .1 .1 .1 .1 .1 .0) (more (below-1 .1 .1 .1 .1 .1 .1 .1 .1 .1 .1 .1 .1 .0) (more (below-1 .1 .1 .1 .1 .1 .1 .1 .1 .1 .1 .1 .1 .1 .0) (more (below-1 .1 .1 .1 .1 .1 .1 .1 .1 .1 .1 .1 .1 .1 .1 .0) (more (below-48 .0) (more (below-48 .1 .0) (more (below-48 .1 .1 .0) (more (below-2 .1 .1 .1 .1 .1 .0) none)))))))))))))))))))));
+          registers = more (below-30 .1 .0) (more (below-30 .1 .1 .0) (more (below-18 .1 .0) (more (below-18 .1 .1 .0) (more (below-48 .1 .1 .1 .0) (more (below-27 .1 .0) (more (below-27 .1 .1 .0) (more (below-45 .1 .0) (more (below-48 .1 .1 .1 .1 .0) (more (below-9 .1 .0) (more (below-4 .1 .0) (more (below-5 .1 .0) (more (below-3 .1 .0) (more (below-1 .1 .1 .1 .1 .1 .1 .1 .1 .1 .1 .1 .1 .1 .1 .1 .0) (more (below-1 .1 .1 .1 .1 .1 .1 .1 .1 .1 .1 .1 .1 .1 .1 .1 .1 .1 .0) (more (below-1 .1 .1 .1 .1 .1 .1 .1 .1 .1 .1 .1 .1 .1 .1 .1 .1 .1 .1 .0) (more (below-1 .1 .1 .1 .1 .1 .1 .1 .1 .1 .1 .1 .1 .1 .1 .1 .1 .1 .1 .1 .0) (more (below-1 .1 .1 .1 .1 .1 .1 .1 .1 .1 .1 .1 .1 .1 .1 .1 .1 .1 .1 .1 .1 .0) none)))))))))))))))));
+          ports = more (below-30 .1 .1 .1 .0) (more (below-18 .1 .1 .1 .0) (more (below-48 .1 .1 .1 .1 .1 .0) (more (below-27 .1 .1 .1 .0) (more (below-9 .1 .1 .0) (more (below-4 .1 .1 .0) (more (below-5 .1 .1 .0) (more (below-3 .1 .1 .0) (more (below-1 .1 .1 .1 .1 .1 .1 .1 .1 .1 .1 .1 .1 .1 .1 .1 .1 .0) (more (below-13 .1 .0) (more (below-10 .1 .0) none))))))))));
+        },
+        below-2 .1 .1 .1 .1 .1 .1 .0,
+      )

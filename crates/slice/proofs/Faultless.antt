@@ -1,6 +1,7 @@
 -- What makes a slice sound: the widths that the tables ask for, and the rules that leave no fault. Assumes nothing.
 use mathlib.Core.Path.{_≡_}
 use mathlib.Core.Bool.{Bool, true, false, _&&_}
+use mathlib.Core.List.{List, [], _∷_}
 use Prim.Native.Nat.{_<_}
 use lib.Dec.{lit<}
 use Rattle.records.specs.declared.Attributes.{Attributes}
@@ -9,21 +10,24 @@ use Rattle.records.specs.declared.Ports.{Ports}
 use Rattle.records.proofs.Fits.{fit-at}
 use Rattle.unit.proofs.Laws.{mux-lt}
 use Rattle.slice.specs.Slice.{controlsOf, selectsOf}
-use Rattle.slice.specs.Legal.{listed, badInmode, badOpmode, badAlumode, badCarryinsel, offList, faultOf}
+use Rattle.slice.specs.Legal.{listed, splitFits, badInmode, badOpmode, badAlumode, badCarryinsel, offList, faultOf}
 use Rattle.slice.specs.Sound.{Within}
-use Rattle.slice.proofs.Tables.{both}
+use Rattle.word.proofs.Laws.{both-true}
 
--- seven tests that all hold
-pub all-7 : (b1 b2 b3 b4 b5 b6 b7 : Bool) → (((((b1 && b2) && b3) && b4) && b5) && b6) && b7 ≡ true
-    → (b1 ≡ true) × (b2 ≡ true) × (b3 ≡ true) × (b4 ≡ true) × (b5 ≡ true) × (b6 ≡ true) × (b7 ≡ true)
-all-7 b1 b2 b3 b4 b5 b6 b7 e =
-    let to-6 = both (((((b1 && b2) && b3) && b4) && b5) && b6) b7 e in
-    let to-5 = both ((((b1 && b2) && b3) && b4) && b5) b6 (to-6 .0) in
-    let to-4 = both (((b1 && b2) && b3) && b4) b5 (to-5 .0) in
-    let to-3 = both ((b1 && b2) && b3) b4 (to-4 .0) in
-    let to-2 = both (b1 && b2) b3 (to-3 .0) in
-    let to-1 = both b1 b2 (to-2 .0) in
-    (to-1 .0, to-1 .1, to-2 .1, to-3 .1, to-4 .1, to-5 .1, to-6 .1)
+-- tests that are joined and all hold
+abbrev joined : Bool → List Bool → Bool
+joined b [] = b
+joined b (c ∷ cs) = joined (b && c) cs
+
+abbrev Hold : List Bool → Type 0
+Hold [] = Unit {0}
+Hold (c ∷ cs) = (c ≡ true) × Hold cs
+
+pub all-hold : (b : Bool) (cs : List Bool) → joined b cs ≡ true → (b ≡ true) × Hold cs
+all-hold b [] e = (e, tt)
+all-hold b (c ∷ cs) e =
+    let q = all-hold (b && c) cs e in
+    let p = both-true b c (q .0) in (p .0, (p .1, q .1))
 
 -- the widths that the tables ask for
 module _ {a : Attributes} {r : Registers} {p : Ports} (w : Within a r p) where
@@ -45,6 +49,9 @@ module _ {a : Attributes} {r : Registers} {p : Ports} (w : Within a r p) where
   pub mult-lt : a .«use_mult» < 2
   mult-lt = fit-at (w .attributes) 16 (lit< tt)
 
+  pub simd-lt : a .«use_simd» < 4
+  simd-lt = fit-at (w .attributes) 21 (lit< tt)
+
   pub amultsel-lt : a .amultsel < 2
   amultsel-lt = fit-at (w .attributes) 17 (lit< tt)
 
@@ -65,8 +72,8 @@ module _ {a : Attributes} {r : Registers} {p : Ports} (w : Within a r p) where
   carryinsel-lt = mux-lt (a .carryinselreg) (fit-at (w .ports) 7 (lit< tt)) (fit-at (w .registers) 12 (lit< tt))
 
 pub no-fault : (a : Attributes) (r : Registers) (p : Ports) → listed (a .areg) (a .acascreg) ≡ true → listed (a .breg) (a .bcascreg) ≡ true
-    → badInmode a (controlsOf a r p) ≡ false → badOpmode a (selectsOf (controlsOf a r p .opmode)) ≡ false
+    → splitFits (a .«use_mult») (a .«use_simd») ≡ true → badInmode a (controlsOf a r p) ≡ false → badOpmode a (selectsOf (controlsOf a r p .opmode)) ≡ false
     → badAlumode (controlsOf a r p .alumode) (selectsOf (controlsOf a r p .opmode)) ≡ false
     → badCarryinsel a (controlsOf a r p) ≡ false → faultOf a r p ≡ 10
 unfolding faultOf offList
-no-fault a r p la lb im om am cs = rw (la, lb, im, om, am, cs)
+no-fault a r p la lb sf im om am cs = rw (la, lb, sf, im, om, am, cs)

@@ -3,24 +3,21 @@ use mathlib.Core.Path.{_≡_, refl, ap}
 use mathlib.Core.Logic.{⊎-elim}
 use mathlib.Core.Bool.{Bool, true, false, not, _&&_, _||_}
 use mathlib.Core.List.{[], _∷_}
-use Prim.Native.Nat.{ℕ, zero, suc, _*_, _/_, _%_, _^_, _<_}
+use Prim.Native.Nat.{ℕ, zero, suc, _+_, _*_, _/_, _%_, _^_, _<_}
 use native.Mathlib.Nat.{eq-or-lt-of-le, le-of-suc-le-suc, not-suc-le-zero}
 use lib.Dec.{eqb, leb, ltb}
-use borrow.Author.Tests.{not-true}
+use borrow.Author.Tests.{lt-ltb, not-true}
 use lib.Bits.{bitAnd, bitOr}
+use Rattle.word.proofs.Laws.{both-true}
 use Rattle.records.specs.declared.Attributes.{Attributes}
 use Rattle.records.specs.Records.{attributesOf}
 use Rattle.unit.specs.Choice.{bit}
 use Rattle.slice.specs.declared.inputs.Controls.{Controls}
 use Rattle.slice.specs.declared.inputs.Selects.{Selects}
 use Rattle.slice.specs.Slice.{selectsOf}
-use Rattle.slice.specs.Legal.{listed, badInmode, badOpmode, badAlumode, badCarryinsel}
+use Rattle.slice.specs.Legal.{listed, splitFits, badInmode, badOpmode, badAlumode, badCarryinsel}
 
 -- ---- tests joined
-
-pub both : (a b : Bool) → a && b ≡ true → (a ≡ true) × (b ≡ true)
-both true b p = (refl, p)
-both false b p = (p, cc)
 
 -- one test implies another
 abbrev implies : Bool → Bool → Bool
@@ -40,7 +37,7 @@ every (suc n) f = every n f && f n
 every-at : (n : ℕ) (f : ℕ → Bool) → every n f ≡ true → (i : ℕ) → i < n → f i ≡ true
 every-at zero f p i h = absurd (not-suc-le-zero h)
 every-at (suc n) f p i h =
-    let q = both (every n f) (f n) p in
+    let q = both-true (every n f) (f n) p in
     ⊎-elim
     (λ (e : i ≡ n). rw e (q .1))
     (λ (l : i < n). every-at n f (q .0) i l)
@@ -71,6 +68,16 @@ depth-fits reg casc = implies (marks 0x621 (bitOr (up reg 2) casc)) (listed reg 
 
 pub depth-table : (reg casc : ℕ) → marks 0x621 (bitOr (up reg 2) casc) ≡ true → reg < 4 → casc < 4 → listed reg casc ≡ true
 depth-table reg casc p h g = use-implies _ _ (every-at-2 4 4 depth-fits refl reg casc h g) p
+
+-- the mark of USE_MULT and USE_SIMD
+abbrev split-mark : (mult simd : ℕ) → ℕ
+split-mark mult simd = ((up mult 1 + simd) % 2 ^ 64 + 1) % 2 ^ 64
+
+abbrev split-agrees : (mult simd : ℕ) → Bool
+split-agrees mult simd = implies (ltb (split-mark mult simd) 4) (splitFits mult simd)
+
+pub split-table : (mult simd : ℕ) → split-mark mult simd < 4 → mult < 2 → simd < 4 → splitFits mult simd ≡ true
+split-table mult simd p h g = use-implies _ _ (every-at-2 2 4 split-agrees refl mult simd h g) (lt-ltb (split-mark mult simd) 4 p)
 
 abbrev carry-fits : (sel preg : ℕ) → Bool
 carry-fits sel preg = implies (marks 0xab0b (bitOr sel (up preg 3))) (not (badCarryinsel (with 0 preg) (selecting sel)))

@@ -1,9 +1,10 @@
 -- Facts by value that pin the definitions of a slice: each stands beside a slip that would break it. Assumes nothing.
 use mathlib.Core.Path.{_≡_, refl}
 use mathlib.Core.Bool.{true, false}
-use mathlib.Core.List.{List, [], _∷_}
+use mathlib.Core.List.{List, [], _∷_, _++_}
+use lib.ListN.{replicate}
 use Prim.Native.Nat.{ℕ, _+_, _*_, _^_}
-use Rattle.unit.specs.Unit.{arithmetic, logicRows, unitResult, preAdder, product, load}
+use Rattle.unit.specs.Unit.{arithmetic, lanes, logicRows, unitResult, splitResult, preAdder, product, load}
 use Rattle.unit.specs.Detector.{unmasked, detected}
 use Rattle.records.specs.declared.Attributes.{Attributes}
 use Rattle.records.specs.declared.Registers.{Registers}
@@ -11,7 +12,7 @@ use Rattle.records.specs.declared.Ports.{Ports}
 use Rattle.slice.specs.declared.inputs.Cascade.{Cascade}
 use Rattle.records.specs.Records.{attributesOf, registersOf, portsOf, outputsWords}
 use Rattle.slice.specs.Slice.{controlsOf, selectsOf, pathsOf, aSide, dSide, adOf, leftOf, rightOf, productOf, operandsOf, sliceOperands, resultOf, settledOf, sliceSettled, outputsOfSettled, cascadeOf, edge, nextOf, sliceOutputs, sliceCascade, sliceNext}
-use Rattle.slice.specs.Legal.{listed, offList, badInmode, badOpmode, badAlumode, badCarryinsel}
+use Rattle.slice.specs.Legal.{listed, splitFits, offList, badInmode, badOpmode, badAlumode, badCarryinsel}
 
 -- settings, of which all others are 0
 abbrev plain : Attributes
@@ -33,6 +34,10 @@ multiplying = attributesOf (0 ∷ 0 ∷ 0 ∷ 0 ∷ 0 ∷ 0 ∷ 0 ∷ 0 ∷ 0 �
 
 abbrev preadding : Attributes
 preadding = attributesOf (0 ∷ 0 ∷ 0 ∷ 0 ∷ 0 ∷ 0 ∷ 0 ∷ 0 ∷ 0 ∷ 0 ∷ 0 ∷ 0 ∷ 0 ∷ 0 ∷ 0 ∷ 0 ∷ 1 ∷ 1 ∷ [])
+
+-- USE_SIMD
+abbrev split : (simd : ℕ) → Attributes
+split simd = attributesOf (replicate 21 0 ++ (simd ∷ []))
 
 -- A1 11, A2 22, B1 33, B2 44, and the same with P 9, PD 0, PBD 0, PDPAST 1, PBDPAST 1
 abbrev held : Registers
@@ -74,6 +79,11 @@ pub record Clocks : Type 0 where
   pub cin-pcin : p-of plain empty (given 0 0 0 3 0 0 0) bottom ≡ 0
   -- C 5 in Z, less CIN in mode 3
   pub mode-3-takes-cin : p-of plain empty (given 48 3 0 0 1 0 0) bottom ≡ 4
+  -- all ones in Y and 5 in Z: the low lane wraps to 4, or to 5 with CARRYIN, and those above it stay all ones
+  pub one48 : p-of (split 0) empty (given 56 0 0 0 1 0 0) bottom ≡ 5
+  pub two24 : (p-of (split 1) empty (given 56 0 0 0 0 0 0) bottom ≡ 16777215 * 2 ^ 24 + 4)
+      × (p-of (split 1) empty (given 56 0 0 0 1 0 0) bottom ≡ 16777215 * 2 ^ 24 + 5)
+  pub four12 : p-of (split 2) empty (given 56 0 0 0 1 0 0) bottom ≡ (4095 * 2 ^ 24 + 4095 * 2 ^ 12 + 4095) * 2 ^ 12 + 5
   -- with PREG 1 the register P shows, and the falls of PD and PBD; with 0 the settled P, and no fall
   pub shows-register : outputsWords (sliceOutputs registered fallen (given 3 0 0 0 0 0 0) bottom) ≡ 9 ∷ 0 ∷ 0 ∷ 1 ∷ 1 ∷ []
   pub no-fall : outputsWords (sliceOutputs plain fallen (given 0 0 0 0 0 0 0) bottom) ≡ 0 ∷ 1 ∷ 0 ∷ 0 ∷ 0 ∷ []
@@ -104,6 +114,9 @@ pub record Edges : Type 0 where
 pub record Legality : Type 0 where
   pub cascregs : (listed 2 1 ≡ true) × (listed 2 2 ≡ true) × (listed 1 1 ≡ true) × (listed 0 0 ≡ true)
   pub off : (listed 1 2 ≡ false) × (listed 0 1 ≡ false) × (listed 2 0 ≡ false) × (listed 2 3 ≡ false) × (listed 3 3 ≡ false)
+  -- USE_SIMD 0 to 2, and 0 alone with USE_MULT
+  pub splits : (splitFits 0 0 ≡ true) × (splitFits 0 1 ≡ true) × (splitFits 0 2 ≡ true) × (splitFits 1 0 ≡ true)
+  pub no-splits : (splitFits 0 3 ≡ false) × (splitFits 1 1 ≡ false) × (splitFits 1 2 ≡ false)
   -- INMODE bit 0 with AREG 0, bit 2 with AMULTSEL 0, bit 4 with BREG 0; bit 1 is free
   pub inmode-bits : (badInmode plain (controlsOf plain empty (given 0 0 1 0 0 0 0)) ≡ true) × (badInmode plain (controlsOf plain empty (given 0 0 4 0 0 0 0)) ≡ true)
       × (badInmode plain (controlsOf plain empty (given 0 0 16 0 0 0 0)) ≡ true) × (badInmode plain (controlsOf plain empty (given 0 0 2 0 0 0 0)) ≡ false)
@@ -120,7 +133,7 @@ pub record Legality : Type 0 where
       × (badCarryinsel registered (controlsOf registered empty (given 0 0 0 7 0 0 0)) ≡ false)
 
 pub clocks : Clocks
-unfolding sliceOutputs sliceCascade outputsOfSettled cascadeOf sliceSettled settledOf resultOf sliceOperands operandsOf selectsOf productOf leftOf rightOf adOf aSide dSide controlsOf pathsOf unitResult arithmetic logicRows preAdder product detected unmasked
+unfolding sliceOutputs sliceCascade outputsOfSettled cascadeOf sliceSettled settledOf resultOf sliceOperands operandsOf selectsOf productOf leftOf rightOf adOf aSide dSide controlsOf pathsOf splitResult unitResult lanes arithmetic logicRows preAdder product detected unmasked
 clocks =
     record {
       worked = refl;
@@ -134,6 +147,9 @@ clocks =
       cin-not-pcin = refl;
       cin-pcin = refl;
       mode-3-takes-cin = refl;
+      one48 = refl;
+      two24 = (refl, refl);
+      four12 = refl;
       shows-register = refl;
       no-fall = refl;
       cascade-1 = (refl, refl);
@@ -142,7 +158,7 @@ clocks =
     }
 
 pub edges : Edges
-unfolding sliceNext nextOf edge load sliceSettled settledOf resultOf sliceOperands operandsOf selectsOf productOf leftOf rightOf adOf aSide dSide controlsOf pathsOf unitResult arithmetic logicRows preAdder product detected unmasked
+unfolding sliceNext nextOf edge load sliceSettled settledOf resultOf sliceOperands operandsOf selectsOf productOf leftOf rightOf adOf aSide dSide controlsOf pathsOf splitResult unitResult lanes arithmetic logicRows preAdder product detected unmasked
 edges =
     record {
       a2-from-a1 = (refl, refl);
@@ -164,6 +180,8 @@ legality =
     record {
       cascregs = (refl, refl, refl, refl);
       off = (refl, refl, refl, refl, refl);
+      splits = (refl, refl, refl, refl);
+      no-splits = (refl, refl, refl);
       inmode-bits = (refl, refl, refl, refl);
       opmode-selects = (refl, refl, refl, refl, refl, refl, refl, refl);
       alumodes = (refl, refl, refl, refl, refl, refl, refl, refl);

@@ -6,7 +6,8 @@ use lib.Dec.{T, eqb, ltb, lit<}
 use lib.ListN.{length, getD}
 use lib.Pow.{pow-pos}
 use Rattle.unit.specs.Choice.{bit}
-use Rattle.unit.proofs.Laws.{mux-lt, cond-lt, load-lt, pre-adder-lt, product-lt, result-lt, pd-lt, pbd-lt}
+use Rattle.unit.proofs.Laws.{mux-lt, cond-lt, load-lt, pre-adder-lt, product-lt, pd-lt, pbd-lt}
+use Rattle.unit.proofs.Lanes.{result-lt}
 use Rattle.records.specs.declared.Attributes.{Attributes}
 use Rattle.records.specs.declared.Registers.{Registers}
 use Rattle.records.specs.declared.Ports.{Ports}
@@ -35,7 +36,7 @@ module _ (a : Attributes) {r : Registers} {p : Ports} {x : Cascade} where
       let bin = mux-lt (a .«b_input») (word-lt ps 1 tt) (word-lt xs 1 tt) in
       more (cond-lt (eqb (a .areg) 2 && eqb (a .acascreg) 1) (word-lt rs 0 tt) (mux-lt (a .areg) ain (word-lt rs 1 tt)))
       (more (cond-lt (eqb (a .breg) 2 && eqb (a .bcascreg) 1) (word-lt rs 2 tt) (mux-lt (a .breg) bin (word-lt rs 3 tt)))
-      (more (mux-lt (a .preg) (result-lt _ _ _ _ _ _) (word-lt rs 8 tt)) none))
+      (more (mux-lt (a .preg) (result-lt _ _ _ _ _ _ _) (word-lt rs 8 tt)) none))
 
   pub next-fit : Fit registerWidths (registersWords r) → Fit portWidths (portsWords p) → CascadeFit x
       → Fit registerWidths (registersWords (sliceNext a r p x))
@@ -51,7 +52,7 @@ module _ (a : Attributes) {r : Registers} {p : Ports} {x : Cascade} where
       (more (edge-lt p 3 5 27 (word-lt rs 5 tt) (word-lt ps 3 tt))
       (more (edge-lt p 3 6 27 (word-lt rs 6 tt) (pre-adder-lt _ _ _))
       (more (edge-lt p 4 7 45 (word-lt rs 7 tt) (product-lt _ _))
-      (more (edge-lt p 5 8 48 (word-lt rs 8 tt) (result-lt _ _ _ _ _ _))
+      (more (edge-lt p 5 8 48 (word-lt rs 8 tt) (result-lt _ _ _ _ _ _ _))
       (more (edge-lt p 6 9 9 (word-lt rs 9 tt) (word-lt ps 4 tt))
       (more (edge-lt p 7 10 4 (word-lt rs 10 tt) (word-lt ps 5 tt))
       (more (edge-lt p 8 11 5 (word-lt rs 11 tt) (word-lt ps 6 tt))

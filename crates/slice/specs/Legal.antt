@@ -14,9 +14,13 @@ use Rattle.slice.specs.Slice.{controlsOf, selectsOf}
 abbrev pub listed : (reg cascreg : ℕ) → Bool
 listed reg cascreg = leb reg 2 && (eqb cascreg reg || eqb reg 2 && eqb cascreg 1)
 
+-- USE_SIMD is 0 to 2 (02, "Split adder"), and 0 where USE_MULT is 1
+abbrev pub splitFits : (mult simd : ℕ) → Bool
+splitFits mult simd = leb simd 2 && (eqb simd 0 || eqb mult 0)
+
 -- 3, beside the widths
 unfoldable pub offList : Attributes → Bool
-offList a = not (listed (a .areg) (a .acascreg) && listed (a .breg) (a .bcascreg))
+offList a = not (listed (a .areg) (a .acascreg) && listed (a .breg) (a .bcascreg) && splitFits (a .«use_mult») (a .«use_simd»))
 
 -- 6: INMODE bit 2 or 3 set with AMULTSEL 0; bit 0 set with AREG 0; bit 4 set with BREG 0
 unfoldable pub badInmode : Attributes → Controls → Bool

@@ -7,7 +7,7 @@ use lib.Dec.{eqb}
 use Rattle.word.specs.Word.{extend, shifted}
 use Rattle.unit.specs.declared.Detected.{Detected}
 use Rattle.unit.specs.Choice.{mux, choose, bit}
-use Rattle.unit.specs.Unit.{ones, unitResult, preAdder, product, load}
+use Rattle.unit.specs.Unit.{ones, splitResult, preAdder, product, load}
 use Rattle.unit.specs.Detector.{detected}
 use Rattle.records.specs.declared.Attributes.{Attributes}
 use Rattle.records.specs.declared.Registers.{Registers}
@@ -114,9 +114,9 @@ sliceOperands a r p x =
     operandsOf a r (controlsOf a r p) (pathsOf a r p x) x
     (mux (a .mreg) (productOf a r (controlsOf a r p) (pathsOf a r p x) .m) (r .m))
 
--- The unit's result of some operands
-unfoldable pub resultOf : (alumode : ℕ) → Operands → ℕ
-resultOf alumode o = unitResult alumode (o .w) (o .x) (o .y) (o .z) (o .cin)
+-- The unit's result of some operands, in USE_SIMD's lanes
+unfoldable pub resultOf : (simd alumode : ℕ) → Operands → ℕ
+resultOf simd alumode o = splitResult simd alumode (o .w) (o .x) (o .y) (o .z) (o .cin)
 
 -- What settles before the edge: AD, M, the unit's result, and the detector on it
 unfoldable pub settledOf : Attributes → Product → (result : ℕ) → Settled
@@ -131,7 +131,7 @@ settledOf a t result =
 
 unfoldable pub sliceSettled : Attributes → Registers → Ports → Cascade → Settled
 sliceSettled a r p x =
-    settledOf a (productOf a r (controlsOf a r p) (pathsOf a r p x)) (resultOf (controlsOf a r p .alumode) (sliceOperands a r p x))
+    settledOf a (productOf a r (controlsOf a r p) (pathsOf a r p x)) (resultOf (a .«use_simd») (controlsOf a r p .alumode) (sliceOperands a r p x))
 
 -- a flag's fall from 1 to 0
 abbrev pub fall : (past now : ℕ) → ℕ

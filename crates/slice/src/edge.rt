@@ -159,7 +159,8 @@ pub fn stepped(a: Attributes, r: Registers, p: Ports, x: Cascade) -> Step
     let s = routed(a, r, p, x);
     let t = multiplied(a, r, k, s);
     let o = selected(a, r, k, s, x, mux(a.mreg, t.m, r.m));
-    let v = settled_from(a, t, unit::result(k.alumode, o.w, o.x, o.y, o.z, o.cin));
+    let result = unit::split_result(a.use_simd, k.alumode, o.w, o.x, o.y, o.z, o.cin);
+    let v = settled_from(a, t, result);
     let shown = shown(a, r, v);
     let next = loaded(a, r, p, s, v);
     let up = handed_up(a, r, s, shown.p);

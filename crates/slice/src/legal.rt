@@ -1,6 +1,6 @@
 // Which settings of a slice are refused. `&` and `|` on bools leave no branch, so each value is the definition's own.
 ghost use mathlib.Core.Path.{_≡_};
-ghost use Rattle.slice.specs.Legal.{listed, offList, badInmode, badOpmode, badAlumode, badCarryinsel, faultOf};
+ghost use Rattle.slice.specs.Legal.{listed, splitFits, offList, badInmode, badOpmode, badAlumode, badCarryinsel, faultOf};
 use crate::choice::bit;
 use crate::inputs::Controls;
 use crate::inputs::Selects;
@@ -16,11 +16,18 @@ fn listed(reg: u64, cascreg: u64) -> bool
     (reg <= 2) & ((cascreg == reg) | (reg == 2) & (cascreg == 1))
 }
 
+// The adder may be split in two or four where no product is used.
+fn split_fits(mult: u64, simd: u64) -> bool
+    ensures { λ r. ⌜ r ≡ splitFits mult simd ⌝ }
+{
+    (simd <= 2) & ((simd == 0) | (mult == 0))
+}
+
 // Number 3, beside the widths.
 fn off_list(a: Attributes) -> bool
     ensures { λ r. ⌜ r ≡ offList a ⌝ }
 {
-    !(listed(a.areg, a.acascreg) & listed(a.breg, a.bcascreg))
+    !(listed(a.areg, a.acascreg) & listed(a.breg, a.bcascreg) & split_fits(a.use_mult, a.use_simd))
 }
 
 // Number 6.

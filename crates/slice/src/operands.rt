@@ -1,4 +1,4 @@
-// The unit's operands. Each is worked out only where its select chooses it.
+// The unit's operands. Each is worked out only where its select chooses it; the choice of most slices goes first.
 ghost use mathlib.Core.Path.{_≡_};
 ghost use mathlib.Core.List.{[], _∷_};
 ghost use Prim.Native.Nat.{_-_};
@@ -25,6 +25,9 @@ pub struct Operands {
 fn w_operand(select: u64, own: u64, rnd: u64, c: u64) -> u64
     ensures { λ v. ⌜ v ≡ choose (0 ∷ own ∷ rnd ∷ c ∷ []) select ⌝ }
 {
+    if select == 0 {
+        return 0;
+    }
     match select {
         1 => own,
         2 => rnd,
@@ -73,8 +76,10 @@ fn carry_in(select: u64, carryin: u64, below: u64, own: u64) -> u64
     ensures { λ v.
         ⌜ v ≡ choose (carryin ∷ (1 - bit below 47) ∷ 0 ∷ bit below 47 ∷ 0 ∷ (1 - bit own 47) ∷ 0 ∷ bit own 47 ∷ []) select ⌝ }
 {
+    if select == 0 {
+        return carryin;
+    }
     match select {
-        0 => carryin,
         1 => 1 - bit(below, 47),
         3 => bit(below, 47),
         5 => 1 - bit(own, 47),

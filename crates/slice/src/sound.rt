@@ -5,7 +5,7 @@ ghost use mathlib.Core.Bool.{true, false};
 ghost use Prim.Native.Nat.{_/_, _%_, _^_, _<_};
 ghost use lib.Dec.{eqb};
 ghost use Rattle.slice.specs.Slice.{selectsOf};
-ghost use Rattle.slice.specs.Legal.{listed, badInmode, badOpmode, badAlumode, badCarryinsel};
+ghost use Rattle.slice.specs.Legal.{listed, splitFits, badInmode, badOpmode, badAlumode, badCarryinsel};
 ghost use Rattle.slice.specs.Sound.{Within, Sound};
 use crate::inputs::Controls;
 use crate::inputs::in_effect;
@@ -13,9 +13,17 @@ use records::Attributes;
 use records::Ports;
 use records::Registers;
 
-// What the words have above their widths. The widest go first, and each shift takes them down to the next width.
-fn excess(a: Attributes, r: Registers, p: Ports) -> u64
-    ensures { λ v. ⌜ (v ≡ 0 → Within a r p) ⌝ }
+// Below 4 where USE_SIMD goes with USE_MULT, each within its width.
+fn split_mark(mult: u64, simd: u64) -> u64
+    ensures { λ v. ⌜ (v < 4 → mult < 2 → simd < 4 → splitFits mult simd ≡ true) ⌝ }
+{
+    std::num::wrapping_add_u64(std::num::wrapping_add_u64(mult << 1, simd), 1)
+}
+
+// What the words have above their widths, and a mark above two bits. The widest go first, and each shift takes them down to
+// the next width.
+fn excess(a: Attributes, r: Registers, p: Ports, mark: u64) -> u64
+    ensures { λ v. ⌜ (v ≡ 0 → Within a r p × (mark < 4)) ⌝ }
 {
     let over_45 = (a.rnd | a.pattern | a.mask | r.c | r.p | p.c) >> 3;
     let over_30 = (over_45 | r.m) >> 15;
@@ -28,7 +36,7 @@ fn excess(a: Attributes, r: Registers, p: Ports) -> u64
     let over_4 = (over_5 | r.inmode | p.inmode) >> 1;
     let over_3 = (over_4 | r.alumode | p.alumode) >> 1;
     let over_2 = (over_3 | r.carryinsel | p.carryinsel) >> 1;
-    let over_1 = (over_2 | a.areg | a.breg | a.acascreg | a.bcascreg) >> 1;
+    let over_1 = (over_2 | a.areg | a.breg | a.acascreg | a.bcascreg | a.use_simd | mark) >> 1;
     let inputs = over_1 | a.a_input | a.b_input | a.creg | a.dreg | a.adreg | a.mreg | a.preg;
     let controls = inputs
         | a.opmodereg
@@ -92,7 +100,8 @@ pub fn is_sound(a: Attributes, r: Registers, p: Ports) -> bool
     ensures { λ v. ⌜ (v ≡ true → Sound a r p) ⌝ }
 {
     let k = in_effect(a, r, p);
-    (excess(a, r, p) == 0)
+    let mark = split_mark(a.use_mult, a.use_simd);
+    (excess(a, r, p, mark) == 0)
         & depth_fine(a.areg, a.acascreg)
         & depth_fine(a.breg, a.bcascreg)
         & inmode_fine(a, k)

@@ -85,9 +85,9 @@ logic-lt mode x y z hx hz =
     row : {a b : ℕ} → a < 2 ^ 48 → b < 2 ^ 48 → byY y a b < 2 ^ 48
     row h k = cond-lt (eqb y 0) h k
 
-pub result-lt : (mode w x y z cin : ℕ) → unitResult mode w x y z cin < 2 ^ 48
+pub unit-lt : (mode w x y z cin : ℕ) → unitResult mode w x y z cin < 2 ^ 48
 unfolding unitResult
-result-lt mode w x y z cin =
+unit-lt mode w x y z cin =
     cond-lt (ltb mode 4) (arithmetic-lt 48 mode w x y z cin)
     (logic-lt mode (x % 2 ^ 48) y (z % 2 ^ 48) (mod-lt x (pow-pos 48)) (mod-lt z (pow-pos 48)))
 

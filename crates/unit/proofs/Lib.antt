@@ -1,4 +1,5 @@
 pub mod Laws
+pub mod Lanes
 pub mod Masks
 pub mod Unique
 pub mod Values

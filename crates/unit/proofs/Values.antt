@@ -1,10 +1,10 @@
 -- Values of the parts, in one statement, by computation: cases 1 to 6 and 8 to 10 of 01's "Values to hold against", and what 01's
--- sentences say of the logic rows, the load and the adder call. Assumes nothing.
-use Prim.Native.Nat.{ℕ, _+_, _^_}
+-- sentences say of the logic rows, the lanes, the load and the adder call. Assumes nothing.
+use Prim.Native.Nat.{ℕ, _+_, _-_, _*_, _^_}
 use mathlib.Core.Path.{_≡_, refl}
 use lib.IntN.{negsuc}
 use Rattle.word.specs.Word.{word, signed, extend}
-use Rattle.unit.specs.Unit.{ones, arithmetic, logicRows, unitResult, preAdder, product, load, adder}
+use Rattle.unit.specs.Unit.{ones, arithmetic, lanes, logicRows, unitResult, splitResult, preAdder, product, load, adder}
 use Rattle.unit.specs.Detector.{unmasked, detected}
 
 -- a logic mode's result at X 12 and Z 10, with a CIN that is ignored
@@ -35,6 +35,17 @@ pub record Values : Type 0 where
   pub mode13 : (row 13 0 ≡ 4) × (row 13 (ones 48) ≡ 281474976710653)
   pub mode14 : (row 14 0 ≡ 281474976710647) × (row 14 (ones 48) ≡ 281474976710641)
   pub mode15 : (row 15 0 ≡ 281474976710651) × (row 15 (ones 48) ≡ 2)
+  -- the lanes of USE_SIMD: TWO24 with X all ones and Y 1, whose low lane wraps to 0 (or to CIN) and leaves the high lane all ones; ONE48
+  -- carries on
+  pub two24 : (splitResult 1 0 0 (ones 48) 1 0 0 ≡ 16777215 * 2 ^ 24) × (splitResult 1 0 0 (ones 48) 1 0 1 ≡ 16777215 * 2 ^ 24 + 1)
+      × (splitResult 0 0 0 (ones 48) 1 0 0 ≡ 0)
+  -- FOUR12 in mode 3 with Z 0 and X 1 in the lowest lane: that lane is all ones, the others are 0
+  pub four12 : splitResult 2 3 0 1 0 0 0 ≡ 4095
+  -- modes 2 and 1 complement in each lane: of 1, 2, 3, 4 from the lowest up
+  pub lanes2 : splitResult 2 2 0 (1 + 2 * 2 ^ 12 + 3 * 2 ^ 24 + 4 * 2 ^ 36) 0 0 0 ≡ 4094 + 4093 * 2 ^ 12 + 4092 * 2 ^ 24 + 4091 * 2 ^ 36
+  pub lanes1 : splitResult 2 1 0 0 0 (1 + 2 * 2 ^ 12 + 3 * 2 ^ 24 + 4 * 2 ^ 36) 1 ≡ 4095 + 4093 * 2 ^ 12 + 4092 * 2 ^ 24 + 4091 * 2 ^ 36
+  -- logic sees 48 bits
+  pub logic : (splitResult 2 5 0 12 0 10 0 ≡ 281474976710649) × (splitResult 1 12 0 (ones 48) 0 (2 ^ 24 - 1) 0 ≡ 2 ^ 24 - 1)
   -- d - a below 0, a product with one side below 0, and its extension
   pub subtracts : preAdder 1 0 1 ≡ 134217727
   pub below-0 : product 134217727 1 ≡ 35184372088831
@@ -49,7 +60,7 @@ pub record Values : Type 0 where
   pub accepts : (adder 0 5 7 0 0 0 ≡ 12) × (adder 0 12 (ones 48) 10 1 12 ≡ 14)
 
 pub values : Values
-unfolding arithmetic logicRows unitResult preAdder product load adder unmasked detected
+unfolding arithmetic lanes logicRows unitResult splitResult preAdder product load adder unmasked detected
 values =
     record {
       case1 = refl;
@@ -71,6 +82,11 @@ values =
       mode13 = (refl, refl);
       mode14 = (refl, refl);
       mode15 = (refl, refl);
+      two24 = (refl, refl, refl);
+      four12 = refl;
+      lanes2 = refl;
+      lanes1 = refl;
+      logic = (refl, refl);
       subtracts = refl;
       below-0 = refl;
       extends = refl;

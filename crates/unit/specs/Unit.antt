@@ -1,6 +1,6 @@
 -- The parts of a slice on plain numbers (01, "One clock"), and the C bench's adder (01, "Adder call for the C bench").
 -- Each part reads the low bits of its numbers, as many as it is wide. Assumes nothing.
-use Prim.Native.Nat.{ℕ, _+_, _-_, _%_, _^_}
+use Prim.Native.Nat.{ℕ, zero, suc, _+_, _-_, _*_, _/_, _%_, _^_}
 use mathlib.Core.Bool.{Bool, cond, not, _&&_, _||_}
 use mathlib.Core.List.{[], _∷_}
 use lib.Dec.{ltb, leb, eqb}
@@ -53,6 +53,26 @@ logicRows mode x y z =
 unfoldable pub unitResult : (mode w x y z cin : ℕ) → ℕ
 unitResult mode w x y z cin =
     cond (ltb mode 4) (arithmetic 48 mode w x y z cin) (logicRows mode (x % 2 ^ 48) y (z % 2 ^ 48))
+
+-- Split adder (02, Ask 1): count lanes of width bits. The lowest takes the low bits of each operand and CIN; those above it take what is
+-- left of each, and no carry
+unfoldable pub lanes : (width count mode w x y z cin : ℕ) → ℕ
+lanes width zero mode w x y z cin = 0
+lanes width (suc n) mode w x y z cin =
+    lanes width n mode (w / 2 ^ width) (x / 2 ^ width) (y / 2 ^ width) (z / 2 ^ width) 0 * 2 ^ width
+    + arithmetic width mode (w % 2 ^ width) (x % 2 ^ width) (y % 2 ^ width) (z % 2 ^ width) cin
+
+-- USE_SIMD: 0 ONE48, 1 TWO24, 2 FOUR12
+abbrev pub laneWidth : (simd : ℕ) → ℕ
+laneWidth simd = choose (48 ∷ 24 ∷ 12 ∷ []) simd
+
+abbrev pub laneCount : (simd : ℕ) → ℕ
+laneCount simd = choose (1 ∷ 2 ∷ 4 ∷ []) simd
+
+-- The unit's result by USE_SIMD: arithmetic lane by lane; logic sees 48 bits
+unfoldable pub splitResult : (simd mode w x y z cin : ℕ) → ℕ
+splitResult simd mode w x y z cin =
+    cond (ltb mode 4) (lanes (laneWidth simd) (laneCount simd) mode w x y z cin) (unitResult mode w x y z cin)
 
 -- Pre-adder: d + a, or d − a where subtract is not 0, modulo 2 ^ 27
 unfoldable pub preAdder : (subtract d a : ℕ) → ℕ

@@ -2,11 +2,12 @@
 // of a register; and the C bench's adder. Every function takes every number, and reads as many low bits as it is wide.
 ghost use mathlib.Core.Path.{_≡_};
 ghost use mathlib.Core.Bool.{cond};
-ghost use Prim.Native.Nat.{_+_, _<_, _%_, _^_};
-ghost use lib.IntN.{pos, _-ℤ_};
-ghost use Rattle.word.specs.Word.{word, extend};
-ghost use Rattle.unit.specs.Unit.{arithmetic, byY, logicRows, unitResult, preAdder, product, load, within, forbidden, adder};
+ghost use Prim.Native.Nat.{_<_, _^_};
+ghost use Rattle.word.specs.Word.{extend};
+ghost use Rattle.unit.specs.Unit.{byY, logicRows, unitResult, splitResult, preAdder, product, load, within, forbidden, adder};
 ghost use Rattle.unit.specs.Detector.{detected};
+
+mod arithmetic;
 
 const ONES: u64 = 0xffff_ffff_ffff;
 
@@ -14,35 +15,6 @@ const ONES: u64 = 0xffff_ffff_ffff;
 pub struct Detected {
     pub pd: u64,
     pub pbd: u64,
-}
-
-// a - b, modulo 2^48. 2^48 divides 2^64, so the wrapped difference leaves the remainder of the difference.
-fn difference(a: u64, b: u64) -> u64
-    ensures { λ r. ⌜ r ≡ word 48 (pos a -ℤ pos b) ⌝ }
-{
-    std::num::wrapping_sub_u64(a, b) % 0x1_0000_0000_0000
-}
-
-// W + X + Y + CIN, modulo 2^64.
-fn others(w: u64, x: u64, y: u64, cin: u64) -> u64
-    ensures { λ r. ⌜ r ≡ (w + x + y + cin) % 2 ^ 64 ⌝ }
-{
-    let wx = std::num::wrapping_add_u64(w, x);
-    std::num::wrapping_add_u64(std::num::wrapping_add_u64(wx, y), cin)
-}
-
-// Arithmetic modes 0 to 3.
-fn arithmetic_of(mode: u64, w: u64, x: u64, y: u64, z: u64, cin: u64) -> u64
-    ensures { λ r. ⌜ r ≡ arithmetic 48 mode w x y z cin ⌝ }
-{
-    let sum = others(w, x, y, cin);
-    match mode {
-        0 => std::num::wrapping_add_u64(z, sum) % 0x1_0000_0000_0000,
-        1 => difference(std::num::wrapping_add_u64(ONES, sum), z),
-        2 => difference(ONES, std::num::wrapping_add_u64(z, sum)),
-        3 => difference(z, sum),
-        _ => 0,
-    }
 }
 
 fn by_y(y: u64, a: u64, b: u64) -> u64
@@ -71,14 +43,36 @@ fn logic_of(mode: u64, x: u64, y: u64, z: u64) -> u64
     }
 }
 
-// The adder and logic unit.
+// The adder and logic unit, in one piece.
 pub fn result(mode: u64, w: u64, x: u64, y: u64, z: u64, cin: u64) -> u64
     ensures { λ r. ⌜ r ≡ unitResult mode w x y z cin ⌝ }
 {
     if mode < 4 {
-        arithmetic_of(mode, w, x, y, z, cin)
+        arithmetic::lane(48, mode, w, x, y, z, cin)
     } else {
         logic_of(mode, x % 0x1_0000_0000_0000, y, z % 0x1_0000_0000_0000)
+    }
+}
+
+// An adder that is split, or logic.
+fn split_or_logic(simd: u64, mode: u64, w: u64, x: u64, y: u64, z: u64, cin: u64) -> u64
+    ensures { λ r. ⌜ r ≡ splitResult simd mode w x y z cin ⌝ }
+{
+    if mode < 4 {
+        arithmetic::by_simd(simd, mode, w, x, y, z, cin)
+    } else {
+        result(mode, w, x, y, z, cin)
+    }
+}
+
+// The adder and logic unit, by USE_SIMD. What most slices do stands apart, so that the compiler sets it into their clock.
+pub fn split_result(simd: u64, mode: u64, w: u64, x: u64, y: u64, z: u64, cin: u64) -> u64
+    ensures { λ r. ⌜ r ≡ splitResult simd mode w x y z cin ⌝ }
+{
+    if (simd == 0) & (mode < 4) {
+        arithmetic::lane(48, mode, w, x, y, z, cin)
+    } else {
+        split_or_logic(simd, mode, w, x, y, z, cin)
     }
 }
 

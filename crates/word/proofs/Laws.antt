@@ -1,6 +1,6 @@
 -- Laws of a word of w bits, each once for every width: its bound, its two readings and their round trips, its range. Assumes nothing.
 use mathlib.Core.Path.{_≡_, refl, ap, _∙_}
-use mathlib.Core.Bool.{Bool, true, false, cond}
+use mathlib.Core.Bool.{Bool, true, false, cond, _&&_}
 use Prim.Native.Nat.{ℕ, zero, suc, _+_, _-_, _*_, _/_, _%_, _^_, _≤_, _<_}
 use native.Mathlib.Nat.{le-refl, le-trans, mul-le-mul, pow-suc, mod-lt, mod-mod, mod-eq-of-lt}
 use native.Mathlib.Omega.{arith}
@@ -21,6 +21,11 @@ cases P a b {x} {y} f g = by (ltb a b) (ltb-true a b) (ltb-false a b)
     by : (t : Bool) → (t ≡ true → a < b) → (t ≡ false → b ≤ a) → P (cond t x y)
     by true p q = f (p refl)
     by false p q = g (q refl)
+
+-- two tests that both hold
+pub both-true : (a b : Bool) → a && b ≡ true → (a ≡ true) × (b ≡ true)
+both-true true b p = (refl, p)
+both-true false b p = (p, cc)
 
 pub word-lt : (w : ℕ) (z : ℤ) → word w z < 2 ^ w
 word-lt w (pos n) = mod-lt n (pow-pos w)

@@ -1,14 +1,13 @@
--- Sums and differences that have wrapped at 2 ^ (j + k), taken modulo 2 ^ k: 2 ^ k divides 2 ^ (j + k), so nothing is lost.
+-- Differences that have wrapped at 2 ^ (j + k), taken modulo 2 ^ k: 2 ^ k divides 2 ^ (j + k), so nothing is lost.
 -- Assumes nothing.
 use mathlib.Core.Path.{_≡_, ap, sym, _∙_}
 use Prim.Native.Nat.{ℕ, _+_, _*_, _/_, _%_, _^_}
-use native.Mathlib.Nat.{div-add-mod', mod-eq-of-lt}
+use native.Mathlib.Nat.{div-add-mod'}
 use native.Mathlib.Omega.{arith}
 use lib.Pow.{pow-pos}
-use lib.IntN.{ℤ, pos, _-ℤ_}
+use lib.IntN.{pos, _-ℤ_}
 use Rattle.word.specs.Word.{word}
-use Rattle.word.proofs.Laws.{word-lt}
-use Rattle.word.proofs.Integers.{minus, parts, same-mod, modulo-sub, over, under, modulo-split, multiple}
+use Rattle.word.proofs.Integers.{minus, modulo-sub, multiple}
 
 module _ (j k : ℕ) where
   -- how many 2 ^ k a number loses as it wraps
@@ -18,29 +17,9 @@ module _ (j k : ℕ) where
   whole : (a : ℕ) → a ≡ a % 2 ^ (j + k) + lost a * 2 ^ k
   whole a = omega (arith, div-add-mod' a (2 ^ (j + k)), multiple j k (a / 2 ^ (j + k)))
 
-  pub sum-wraps : (a b : ℕ) → (a % 2 ^ (j + k) + b) % 2 ^ k ≡ (a + b) % 2 ^ k
-  sum-wraps a b = same-mod (2 ^ k) (a % 2 ^ (j + k) + b) (a + b) (lost a) 0 (omega (arith, whole a))
-
   -- r is a wrapped difference of two numbers that may have wrapped themselves
   pub difference-wraps : (r a b : ℕ) → (r + b % 2 ^ (j + k)) % 2 ^ (j + k) ≡ a % 2 ^ (j + k) → r % 2 ^ k ≡ word k (pos a -ℤ pos b)
   difference-wraps r a b e =
       modulo-sub (2 ^ k) (pow-pos k) a b r (lost a) (lost (r + b % 2 ^ (j + k)) + lost b)
       (omega (arith, whole a, whole b, whole (r + b % 2 ^ (j + k))))
       ∙ ap (word k) (sym (minus a b))
-
-  -- and the difference of two wrapped numbers leaves the word of the numbers' own
-  pub difference-of-wrapped : (a b : ℕ) → word k (pos (a % 2 ^ (j + k)) -ℤ pos (b % 2 ^ (j + k))) ≡ word k (pos a -ℤ pos b)
-  difference-of-wrapped a b =
-      sym (mod-eq-of-lt (word-lt k z))
-      ∙ modulo-sub (2 ^ k) (pow-pos k) a b (word k z) (over (2 ^ k) z + lost a) (under (2 ^ k) z + lost b)
-      (omega (arith, modulo-split (2 ^ k) (pow-pos k) z, parts z a′ b′ (minus a′ b′), whole a, whole b))
-      ∙ ap (word k) (sym (minus a b))
-    where
-      a′ : ℕ
-      a′ = a % 2 ^ (j + k)
-
-      b′ : ℕ
-      b′ = b % 2 ^ (j + k)
-
-      z : ℤ
-      z = pos a′ -ℤ pos b′

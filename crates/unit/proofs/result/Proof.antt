@@ -8,7 +8,7 @@ use Rattle.unit.proofs.result.Tie as tie
 
 returns : tie.Need-returns
 unfolding unitResult
-returns c = rw (lt-ltb (c .before .before .args .mode) 4 (omega arith)) (c .arithmetic-of .ensures)
+returns c = rw (lt-ltb (c .before .before .args .mode) 4 (omega arith)) (c .lane .ensures)
 
 returns-2 : tie.Need-returns-2
 unfolding unitResult

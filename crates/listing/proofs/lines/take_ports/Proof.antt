@@ -5,7 +5,7 @@ use native.Mathlib.Omega.{arith}
 use borrow.Author.Tests.{not-true, not-false, lt-leb, le-leb}
 use Rattle.records.specs.Records.{portWords}
 use Rattle.listing.specs.Steps.{goesOn}
-use Rattle.listing.proofs.Groups.{malformed-step, one-of-step, last-step, read-in}
+use Rattle.listing.proofs.Groups.{malformed-step, one-of-step, last-step, line-in}
 use borrow.Author.Needs.{needs}
 use Rattle.listing.proofs.lines.take_ports.Statement.{statement}
 use Rattle.listing.proofs.lines.take_ports.Tie as tie
@@ -16,7 +16,7 @@ malformed c =
     let back12 = back4 .before .before .before .before .before .before .before .before in
     let given = back12 in
     let a = given .args in
-    let read = read-in 80 portWords (a .q .given) (a .line .now) (a .ports .now) (given .pre .0 .fair .given) (given .pre .1 .ports) (back4 .line .ensures) in
+    let read = line-in portWords (a .q .given) (a .ports .now) (given .pre .0 .fair .given) (given .pre .1 .ports) 80 (a .line .now) (back4 .line .ensures) in
     let well = read .well ∙ not-true _ (c .before .if1 .taken) in
     record { ports = read .words; step = c .refused .ensures ∙ sym (malformed-step _ _ _ well); registers = rw well; outputs = rw well }
 
@@ -27,7 +27,7 @@ one-of c =
     let back16 = back8 .before .before .before .before .before .before .before .before in
     let given = back16 in
     let a = given .args in
-    let read = read-in 80 portWords (a .q .given) (a .line .now) (a .ports .now) (given .pre .0 .fair .given) (given .pre .1 .ports) (back8 .line .ensures) in
+    let read = line-in portWords (a .q .given) (a .ports .now) (given .pre .0 .fair .given) (given .pre .1 .ports) 80 (a .line .now) (back8 .line .ensures) in
     let well = read .well ∙ not-false _ (back5 .if1 .left) in
     let more = lt-leb (a .q .count) (a .q .given + 1) (c .before .before .if2 .taken) in
     record {
@@ -43,7 +43,7 @@ take-clock-requires c κs =
     let back17 = back9 .before .before .before .before .before .before .before .before in
     let given = back17 in
     let a = given .args in
-    let read = read-in 80 portWords (a .q .given) (a .line .now) (a .ports .now) (given .pre .0 .fair .given) (given .pre .1 .ports) (back9 .line .ensures) in
+    let read = line-in portWords (a .q .given) (a .ports .now) (given .pre .0 .fair .given) (given .pre .1 .ports) 80 (a .line .now) (back9 .line .ensures) in
     let words = given .pre .1 in (
       given .pre .0,
       record { attributes = words .attributes; registers = words .registers; ports = read .long ∙ words .ports; outputs = words .outputs },
@@ -58,7 +58,7 @@ last c =
     let back22 = back14 .before .before .before .before .before .before .before .before in
     let given = back22 in
     let a = given .args in
-    let read = read-in 80 portWords (a .q .given) (a .line .now) (a .ports .now) (given .pre .0 .fair .given) (given .pre .1 .ports) (back14 .line .ensures) in
+    let read = line-in portWords (a .q .given) (a .ports .now) (given .pre .0 .fair .given) (given .pre .1 .ports) 80 (a .line .now) (back14 .line .ensures) in
     let whole : a .q .count ≤ a .q .given + 1 = omega (arith, back8 .if2 .left) in
     let well = read .well ∙ not-false _ (back11 .if1 .left) in
     let clock = back4 .take-clock .ensures in

@@ -3,9 +3,8 @@ use mathlib.Core.Path.{_∙_, sym, ap, ap₂}
 use native.Mathlib.Omega.{arith}
 use lib.ListN.{length-take}
 use borrow.Author.Tests.{not-true, not-false}
-use Rattle.records.specs.Records.{attributeWords}
 use Rattle.listing.specs.Steps.{goesOn, answered}
-use Rattle.listing.proofs.Groups.{malformed-step, one-of-step, last-step, read-in}
+use Rattle.listing.proofs.Groups.{malformed-step, one-of-step, last-step, settings-in}
 use borrow.Author.Needs.{needs}
 use Rattle.listing.proofs.lines.take_settings.Statement.{statement}
 use Rattle.listing.proofs.lines.take_settings.Tie as tie
@@ -16,7 +15,7 @@ malformed c =
     let back9 = back4 .before .before .before .before .before in
     let given = back9 in
     let a = given .args in
-    let read = read-in 65 attributeWords (a .q .given) (a .line .now) (a .attributes .now) (given .pre .0 .given) (given .pre .1) (back4 .line .ensures) in
+    let read = settings-in (a .q .given) (a .attributes .now) (given .pre .0 .given) (given .pre .1) (a .line .now) (back4 .read-settings .ensures) in
     record { words = read .words; step = c .refused .ensures ∙ sym (malformed-step _ _ _ (read .well ∙ not-true _ (c .before .if1 .taken))) }
 
 one-of : tie.Need-returns-2
@@ -26,7 +25,7 @@ one-of c =
     let back12 = back7 .before .before .before .before .before in
     let given = back12 in
     let a = given .args in
-    let read = read-in 65 attributeWords (a .q .given) (a .line .now) (a .attributes .now) (given .pre .0 .given) (given .pre .1) (back7 .line .ensures) in
+    let read = settings-in (a .q .given) (a .attributes .now) (given .pre .0 .given) (given .pre .1) (a .line .now) (back7 .read-settings .ensures) in
     record {
       words = read .words;
       step =
@@ -43,7 +42,7 @@ last c =
     let back15 = back10 .before .before .before .before .before in
     let given = back15 in
     let a = given .args in
-    let read = read-in 65 attributeWords (a .q .given) (a .line .now) (a .attributes .now) (given .pre .0 .given) (given .pre .1) (back10 .line .ensures) in
+    let read = settings-in (a .q .given) (a .attributes .now) (given .pre .0 .given) (given .pre .1) (a .line .now) (back10 .read-settings .ensures) in
     record {
       words = read .words;
       step =

@@ -13,7 +13,7 @@ unfolding sliceSettled sliceOperands resultOf
 settles c =
     let at-mux = c .before .before .before in
     rw (
-      c .before .result .ensures,
+      c .before .split-result .ensures,
       c .before .before .selected .ensures,
       at-mux .mux .ensures,
       at-mux .before .multiplied .ensures,

@@ -6,7 +6,7 @@ use Rattle.slice.proofs.legal.off_list.Tie as tie
 
 returns : tie.Need-returns
 unfolding offList
-returns c = rw (c .before .listed .ensures, c .listed2 .ensures)
+returns c = rw (c .before .before .listed .ensures, c .before .listed2 .ensures, c .split-fits .ensures)
 
 pub off-list-spec : {M : Type 1} → statement M
-off-list-spec = tie.close (tie.spec (λ c κs. search needs) (λ c κs. search needs) returns)
+off-list-spec = tie.close (tie.spec (λ c κs. search needs) (λ c κs. search needs) (λ c κs. search needs) returns)

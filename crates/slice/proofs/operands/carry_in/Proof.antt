@@ -7,28 +7,31 @@ use Rattle.slice.proofs.Selects.{rest-cin}
 use Rattle.slice.proofs.operands.carry_in.Statement.{statement}
 use Rattle.slice.proofs.operands.carry_in.Tie as tie
 
+returns : tie.Need-returns
+returns c = rw (c .if1 .taken)
+
 returns-2 : tie.Need-returns-2
-returns-2 c = rw (c .before .match .keys2, c .bit .ensures)
+returns-2 c = rw (c .before .match .keys1, c .bit .ensures)
 
 returns-3 : tie.Need-returns-3
-returns-3 c = rw (c .before .match .keys3, c .bit2 .ensures)
+returns-3 c = rw (c .before .match .keys2, c .bit2 .ensures)
 
 returns-4 : tie.Need-returns-4
-returns-4 c = rw (c .before .match .keys4, c .bit3 .ensures)
+returns-4 c = rw (c .before .match .keys3, c .bit3 .ensures)
 
 returns-5 : tie.Need-returns-5
-returns-5 c = rw (c .before .match .keys5, c .bit4 .ensures)
+returns-5 c = rw (c .before .match .keys4, c .bit4 .ensures)
 
 returns-6 : tie.Need-returns-6
 returns-6 c =
-    let x = c .before .args in
+    let x = c .before .before .args in
     let n = c .match .rest in
     let low = bit (x .below) 47 in
     let own = bit (x .own) 47 in
-    sym (rest-cin (x .carryin) (1 - low) low (1 - own) own (x .select) (n .0 .0 .0 .0 .1) (n .0 .0 .0 .1) (n .0 .0 .1) (n .0 .1) (n .1))
+    sym (rest-cin (x .carryin) (1 - low) low (1 - own) own (x .select) (c .before .if1 .left) (n .0 .0 .0 .1) (n .0 .0 .1) (n .0 .1) (n .1))
 
 pub carry-in-spec : {M : Type 1} → statement M
 carry-in-spec =
     tie.close
-    (tie.spec (λ c κs. search needs) (λ c. search needs) (λ c κs. search needs) (λ c κs. search needs) (λ c. search needs)
-    (λ c κs. search needs) (λ c. search needs) returns-2 returns-3 returns-4 returns-5 returns-6)
+    (tie.spec returns (λ c κs. search needs) (λ c. search needs) (λ c κs. search needs) (λ c κs. search needs) (λ c. search needs)
+    (λ c κs. search needs) returns-2 returns-3 returns-4 returns-5 returns-6)

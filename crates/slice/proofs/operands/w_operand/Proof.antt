@@ -5,11 +5,11 @@ use Rattle.slice.proofs.Selects.{rest-4}
 use Rattle.slice.proofs.operands.w_operand.Statement.{statement}
 use Rattle.slice.proofs.operands.w_operand.Tie as tie
 
-returns-4 : tie.Need-returns-4
-returns-4 c =
-    let x = c .before .args in
+returns-5 : tie.Need-returns-5
+returns-5 c =
+    let x = c .before .before .args in
     let n = c .match .rest in
     sym (rest-4 (x .own) (x .rnd) (x .c) (x .select) (n .0 .0 .1) (n .0 .1) (n .1))
 
 pub w-operand-spec : {M : Type 1} → statement M
-w-operand-spec = tie.close (tie.spec (λ c. search needs) (λ c. search needs) (λ c. search needs) returns-4)
+w-operand-spec = tie.close (tie.spec (λ c. search needs) (λ c. search needs) (λ c. search needs) (λ c. search needs) returns-5)

@@ -1,8 +1,8 @@
--- `unit::others` meets its contract: a sum that wraps at each step has wrapped once. Assumes nothing.
+-- `unit::arithmetic::others` meets its contract: a sum that wraps at each step has wrapped once. Assumes nothing.
 use native.Mathlib.Nat.{mod-add-mod}
 use borrow.Author.Needs.{needs}
-use Rattle.unit.proofs.others.Statement.{statement}
-use Rattle.unit.proofs.others.Tie as tie
+use Rattle.unit.proofs.arithmetic.others.Statement.{statement}
+use Rattle.unit.proofs.arithmetic.others.Tie as tie
 
 returns : tie.Need-returns
 returns c =
