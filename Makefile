@@ -7,6 +7,9 @@ CALLS = 100000
 COUNT = 5000
 MINUTES = 60
 LINES = 10000000
+# 'make cuts ALL=1' and 'make compare PART=20' say what to cut and to play; nothing in the environment does.
+ALL =
+PART =
 # The program that plays listings, where it has been built. On x86-64 it runs as it is, elsewhere under an emulator.
 DSPCOL = $(CURDIR)/target/bin/dspcol
 
@@ -24,12 +27,18 @@ build/dsp48e2.h: include/dsp48e2.h
 	mkdir -p build
 	cp include/dsp48e2.h $@
 
-# libdsp48e2.a, its header and a pkg-config file under PREFIX.
+# libdsp48e2.a, its header and a pkg-config file under PREFIX; the version is the header's.
 install: archive
 	mkdir -p $(DESTDIR)$(PREFIX)/lib/pkgconfig $(DESTDIR)$(PREFIX)/include
 	cp build/libdsp48e2.a $(DESTDIR)$(PREFIX)/lib/
 	cp build/dsp48e2.h $(DESTDIR)$(PREFIX)/include/
-	printf 'prefix=%s\nName: dsp48e2\nDescription: a column of DSP48E2 slices, clock by clock\nVersion: 1\nLibs: -L$${prefix}/lib -ldsp48e2\nCflags: -I$${prefix}/include\n' '$(PREFIX)' > $(DESTDIR)$(PREFIX)/lib/pkgconfig/dsp48e2.pc
+	version=$$(sed -n 's/^#define DSP_VERSION_M[A-Z]* //p' build/dsp48e2.h | paste -s -d . -) && \
+	printf 'prefix=%s\nName: dsp48e2\nDescription: a column of DSP48E2 slices, clock by clock\nVersion: %s\nLibs: -L$${prefix}/lib -ldsp48e2\nCflags: -I$${prefix}/include\n' \
+	    '$(PREFIX)' "$$version" > $(DESTDIR)$(PREFIX)/lib/pkgconfig/dsp48e2.pc
+
+# Every form that the scope names, where docs/DECISIONS.md says.
+forms:
+	scripts/check-forms
 
 # The header as C99 and as C++17 without a warning.
 header: include/dsp48e2.h
@@ -114,9 +123,14 @@ benchmark: build/benchmark build/listing $(if $(KIT_CLANG),build/listing-kit) bu
 soak: build/long-listing build/timed dspcol-built
 	DSPCOL='$(DSPCOL)' scripts/soak $(LINES)
 
-# COUNT random listings and all swept ones, played by dspcol and by the second program.
+# COUNT random listings and all swept ones, played by dspcol and by the second program. With PART=n only those that the
+# coverage needs, and one in n of the others.
 compare: dspcol-built
-	DSPCOL='$(DSPCOL)' compare/run $(SEED) $(COUNT)
+	DSPCOL='$(DSPCOL)' PART='$(PART)' compare/run $(SEED) $(COUNT)
+
+# The second program's own tests.
+second-tests:
+	cargo test --quiet --offline --manifest-path second/Cargo.toml --target-dir second/target
 
 # Listings and calls, seed after seed.
 compare-long: build/answer dspcol-built
@@ -130,12 +144,12 @@ planted:
 interactive: build/interactive build/long-listing dspcol-built
 	DSPCOL='$(DSPCOL)' scripts/interactive
 
-# Listings cut in two at every byte, and one whose output is longer than any buffer.
+# Listings cut into pieces at many places, with ALL=1 in two at every byte; and one whose output is longer than any buffer.
 cuts: build/cuts dspcol-built
-	DSPCOL='$(DSPCOL)' scripts/cuts
+	DSPCOL='$(DSPCOL)' SEED='$(SEED)' ALL='$(ALL)' scripts/cuts
 	DSPCOL='$(DSPCOL)' scripts/long-output
 
 clean:
 	rm -rf build
 
-.PHONY: all archive install header bench dspcol-built benchmark soak compare compare-calls compare-long planted interactive cuts clean
+.PHONY: all archive install forms header bench dspcol-built benchmark soak compare compare-calls compare-long second-tests planted interactive cuts clean

@@ -421,6 +421,7 @@ int main(int argc, char **argv)
 {
     unsigned long calls = argc > 2 ? strtoul(argv[2], NULL, 10) : 100000, accepted = 0;
     state = argc > 1 ? strtoul(argv[1], NULL, 10) : 1;
+    printf("header %d.%d\n", DSP_VERSION_MAJOR, DSP_VERSION_MINOR);
     heights();
     lengths();
     limits(&attributes, attribute_widths, DSP_ATTRIBUTE_WORDS, DSP_BAD_ATTRIBUTE);

@@ -18,6 +18,14 @@
 extern "C" {
 #endif
 
+/*
+ * The version of this header. The major number rises when a count or a meaning changes, the minor one when something comes
+ * to it that changes neither. Major 1 had 21 attributes a slice, major 2 has 22. A caller that was compiled against older
+ * counts lends other lengths than are required, and is refused by number 2.
+ */
+#define DSP_VERSION_MAJOR 2
+#define DSP_VERSION_MINOR 0
+
 /* The refusal rule, and what takes a refusal apart. */
 #define DSP_REFUSED (UINT64_C(1) << 48)
 #define DSP_IS_REFUSED(word) ((word) >= DSP_REFUSED)
@@ -133,8 +141,9 @@ enum dsp_output {
 };
 
 /*
- * The width of every word, in bits and in the words' order. The attributes' list is narrower: AREG, BREG and USE_SIMD are
- * 0 to 2.
+ * The width of every word, in bits and in the words' order. The attributes' list is narrower: AREG and BREG are 0 to 2;
+ * ACASCREG equals AREG, except that AREG 2 allows 1 or 2, and BCASCREG goes with BREG likewise; USE_SIMD is 0 to 2, and 0
+ * while USE_MULT is 1.
  */
 #define DSP_ATTRIBUTE_WIDTHS { 2, 2, 2, 2, 1, 1, 1, 1, 1, 1, 1, 1, 1, 1, 1, 1, 1, 1, 48, 48, 48, 2 }
 #define DSP_REGISTER_WIDTHS { 30, 30, 18, 18, 48, 27, 27, 45, 48, 9, 4, 5, 3, 1, 1, 1, 1, 1 }

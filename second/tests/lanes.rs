@@ -1,4 +1,4 @@
-//! The split adder by value: what each lane gives, worked out by hand.
+//! The split adder (02, Ask 1) by value: what each lane gives, worked out by hand.
 
 use second::calls::answer;
 

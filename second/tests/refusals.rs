@@ -1,4 +1,4 @@
-//! One test for each refusal number, through the calls.
+//! A test or more for each number, 12 through a listing and all others through the calls.
 
 use second::calls::answer;
 use second::refusal::REFUSED;

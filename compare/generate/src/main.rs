@@ -6,6 +6,7 @@ mod columns;
 mod draw;
 mod faults;
 mod oracle;
+mod part;
 mod random;
 mod seen;
 mod seen_lanes;
@@ -29,6 +30,7 @@ use book::Book;
 use random::Random;
 
 const USAGE: &str = "usage: generate listings SEED COUNT DIRECTORY
+       generate part SEED SHARE DIRECTORY ANSWERS
        generate tally DIRECTORY ANSWERS
        generate calls SEED COUNT
        generate tally-calls CALLS ANSWERS";
@@ -55,6 +57,10 @@ fn run(arguments: &[&str]) -> io::Result<bool> {
     match arguments {
         ["listings", seed, count, directory] => {
             listings(number(seed)?, number(count)?, Path::new(directory)).map(|()| true)
+        }
+        ["part", seed, share, directory, answers] => {
+            let (seed, share) = (number(seed)?, number(share)?);
+            part::leave(Path::new(directory), Path::new(answers), seed, share).map(|()| true)
         }
         ["calls", seed, count] => {
             let mut out = io::BufWriter::new(io::stdout().lock());

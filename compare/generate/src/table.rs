@@ -40,6 +40,11 @@ impl Table {
         })
     }
 
+    /// How many items were met at least once.
+    pub fn items_met(&self) -> usize {
+        self.groups.iter().flat_map(|group| &group.counts).filter(|count| **count > 0).count()
+    }
+
     /// Prints every item with its count, then the unmet ones; gives how many.
     pub fn print(&self) -> usize {
         let mut items = 0;

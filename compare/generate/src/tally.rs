@@ -13,7 +13,7 @@ use crate::table::Table;
 use crate::words::*;
 
 /// A tally under way.
-struct Tally {
+pub struct Tally {
     table: Table,
     seen: Seen,
     endings: usize,
@@ -37,10 +37,7 @@ const AT_SLICES: [u64; 6] = [3, 5, 6, 7, 8, 9];
 pub fn tally(directory: &Path, answers: &Path) -> io::Result<bool> {
     let mut tally = Tally::new();
     for line in fs::read_to_string(directory.join(EXPECTED))?.lines() {
-        let [name, kind, aim, ending] = fields(line);
-        let listing = fs::read(directory.join(LISTINGS).join(name))?;
-        let answer = String::from_utf8_lossy(&fs::read(answers.join(name))?).into_owned();
-        tally.listing(name, kind, aim, ending, &listing, &answer);
+        tally.line(directory, answers, line)?;
     }
     let unmet = tally.table.print();
     println!("listings: {}", tally.listings);
@@ -50,13 +47,14 @@ pub fn tally(directory: &Path, answers: &Path) -> io::Result<bool> {
     Ok(unmet == 0 && tally.unexpected == 0)
 }
 
-fn fields(line: &str) -> [&str; 4] {
+/// The name, the kind, the aim and the ending that a line of expectations gives.
+pub fn fields(line: &str) -> [&str; 4] {
     let fields: Vec<&str> = line.split('\t').collect();
     fields.try_into().expect("four fields")
 }
 
 impl Tally {
-    fn new() -> Tally {
+    pub fn new() -> Tally {
         let mut table = Table::default();
         let endings = table.group(
             "endings",
@@ -90,6 +88,31 @@ impl Tally {
         }
     }
 
+    /// Counts what a line of expectations names. A listing that a part leaves out is not there; its
+    /// aim has to be met by another one all the same.
+    pub fn line(&mut self, directory: &Path, answers: &Path, line: &str) -> io::Result<()> {
+        let [name, kind, aim, ending] = fields(line);
+        self.aim(aim);
+        let path = directory.join(LISTINGS).join(name);
+        if path.exists() {
+            let listing = fs::read(path)?;
+            let answer = String::from_utf8_lossy(&fs::read(answers.join(name))?).into_owned();
+            self.listing(name, kind, aim, ending, &listing, &answer);
+        }
+        Ok(())
+    }
+
+    /// The item of an aim.
+    fn aim(&mut self, aim: &str) -> usize {
+        let (table, aims) = (&mut self.table, self.aims);
+        *self.aim_items.entry(aim.to_string()).or_insert_with(|| table.item(aims, aim))
+    }
+
+    /// Rises with each item that is met first, and with each ending that is not the oracle's.
+    pub fn news(&self) -> u64 {
+        self.table.items_met() as u64 + self.unexpected
+    }
+
     fn listing(
         &mut self,
         name: &str,
@@ -109,11 +132,9 @@ impl Tally {
                 return;
             }
         };
-        let (table, aims) = (&mut self.table, self.aims);
-        let items = &mut self.aim_items;
-        let item = *items.entry(aim.to_string()).or_insert_with(|| table.item(aims, aim));
         if ending.is_empty() || ending == last {
-            table.met(aims, item);
+            let item = self.aim(aim);
+            self.table.met(self.aims, item);
         } else {
             println!("listing {name} ({aim}): ends {last:?}, the oracle says {ending:?}");
             self.unexpected += 1;

@@ -1,11 +1,11 @@
 -- Laws of the answer: where it is `Accepted` every check has passed, where it is not nothing is stored, and the slice that it reports is
 -- below 24. Assumes nothing.
 use mathlib.Core.Path.{_≡_, refl, ap}
-use mathlib.Core.Logic.{_⊎_, ⊎-elim}
+use mathlib.Core.Logic.{⊎-elim}
 use mathlib.Core.Bool.{Bool, true, false}
 use mathlib.Core.List.{List, [], _∷_}
 use Prim.Native.Nat.{ℕ, _*_, _<_, _≤_}
-use native.Mathlib.Nat.{not-suc-le-zero, lt-of-lt-of-le}
+use native.Mathlib.Nat.{lt-of-lt-of-le}
 use native.Mathlib.Omega.{arith}
 use lib.Dec.{eqb, lit<}
 use lib.ListN.{length}
@@ -13,6 +13,7 @@ use borrow.Author.Tests.{eqb-true}
 use types.Run.{OneOf}
 use denote.Enum.Declared.{tagOf}
 use Rattle.word.proofs.Laws.{both-true}
+use Rattle.lent.specs.Refusing.{unless}
 use Rattle.records.specs.Records.{attributeWords, registerWords, portWords, outputWords}
 use Rattle.column.specs.declared.Check.{Check}
 use Rattle.column.specs.declared.Check.the-variants.{Attribute, Register, Port, Inmode, Opmode, Alumode, Carryinsel}
@@ -20,8 +21,7 @@ use Rattle.column.specs.declared.Answer.{Answer}
 use Rattle.column.specs.declared.Answer.the-variants.{Accepted, BadCount, BadLength, Broken}
 use Rattle.column.specs.declared.refusals.Found.{Found}
 use Rattle.column.specs.declared.refusals.Found.the-variants.{Nothing, At}
-use Rattle.column.specs.Refusals.{checkNumber, numberOf, placeOf, fails, lowest, refuse, unless, broken, settings, countFits, lengthsFit, clockAnswer, clearAnswer, attributesAnswer}
-use Rattle.column.specs.Calls.{leaves}
+use Rattle.column.specs.Refusals.{checkNumber, numberOf, placeOf, fails, lowest, refuse, broken, rules, settings, countFits, lengthsFit, clockAnswer, clearAnswer, attributesAnswer}
 use Rattle.column.specs.Parts.{Lengths}
 use Rattle.column.proofs.Search.{few, lowest-says}
 use Rattle.column.proofs.Answer.{the-type}
@@ -41,7 +41,7 @@ each-check P p3 p4 p5 p6 p7 p8 p9 Carryinsel = p9
 -- where no slice fails any check, the settings are accepted
 pub none-fails : (count : ℕ) (at rs ps : List ℕ)
     → ((check : Check) → lowest (fails check at rs ps) count ≡ Nothing) → settings count at rs ps ≡ Accepted
-unfolding settings
+unfolding settings rules
 none-fails count at rs ps none =
     rw (none Attribute, none Register, none Port, none Inmode, none Opmode, none Alumode, none Carryinsel)
 
@@ -62,7 +62,7 @@ refuse-passes check (At k) next p = absurd (refusal (Broken check k) (check-abov
 
 -- where the settings are accepted, no slice fails a check
 pub accepted-none : (count : ℕ) (at rs ps : List ℕ) → settings count at rs ps ≡ Accepted → (check : Check) → lowest (fails check at rs ps) count ≡ Nothing
-unfolding settings
+unfolding settings rules
 accepted-none count at rs ps p =
     let p3 = refuse-passes Attribute (lowest (fails Attribute at rs ps) count) _ p in
     let p4 = refuse-passes Register (lowest (fails Register at rs ps) count) _ (p3 .1) in
@@ -123,7 +123,7 @@ refuse-other n check (At k) next r h = r
 
 -- so that no clock of them gives number 3
 pub attributes-passed : (count : ℕ) (at rs ps os : List ℕ) → attributesAnswer count at ≡ Accepted → numberOf (clockAnswer count at rs ps os) ≡ 3 → ⊥
-unfolding clockAnswer settings
+unfolding clockAnswer settings rules
 attributes-passed count at rs ps os p =
     rw (accepted-attributes count at rs ps p .2)
     (unless-other 3 (countFits count) BadCount _ (λ e. omega arith)
@@ -137,21 +137,12 @@ attributes-passed count at rs ps os p =
 
 -- ---- refused
 
-abbrev Above : List ℕ → Type 0
-Above [] = Unit {0}
-Above (k ∷ ks) = (0 < k) × Above ks
-
--- a tag that is one of some keys above 0 is above 0
-above : (k : ℕ) (ks : List ℕ) (x : ℕ) → Above (k ∷ ks) → OneOf (k ∷ ks) x → 0 < x
-above k [] x p e = omega arith
-above k (j ∷ ks) x p h = ⊎-elim (λ (e : x ≡ k). omega arith) (λ (l : OneOf (j ∷ ks) x). above j ks x (p .1) l) h
-
--- a refusal leaves what was there
-pub unstored : (a : Answer) → OneOf (1 ∷ 2 ∷ 3 ∷ []) (tagOf the-type a) → (new old : List ℕ) → old ≡ leaves a new old
-unstored Accepted h new old = let z : 0 < 0 = above 1 (2 ∷ 3 ∷ []) 0 (omega arith) h in absurd (not-suc-le-zero z)
-unstored BadCount h new old = refl
-unstored BadLength h new old = refl
-unstored (Broken check k) h new old = refl
+-- an answer of another variant than the first has a number above 0, so what was there is kept
+pub refused : (a : Answer) → OneOf (1 ∷ 2 ∷ 3 ∷ []) (tagOf the-type a) → 0 < numberOf a
+refused Accepted h = absurd (⊎-elim (λ e. omega arith) (λ l. ⊎-elim (λ e. omega arith) (λ e. omega arith) l) h)
+refused BadCount h = lit< tt
+refused BadLength h = lit< tt
+refused (Broken check k) h = check-above check
 
 -- ---- the number, and the slice that is reported
 
@@ -173,7 +164,7 @@ refuse-place check f count next h l = by (lowest f count) (λ k e. lowest-says f
     by (At k) s = lt-of-lt-of-le (s k refl) h
 
 settings-place : (count : ℕ) (at rs ps : List ℕ) → count ≤ 24 → placeOf (settings count at rs ps) < 24
-unfolding settings
+unfolding settings rules
 settings-place count at rs ps h =
     refuse-place Attribute (fails Attribute at rs ps) count _ h
     (refuse-place Register (fails Register at rs ps) count _ h
@@ -198,10 +189,3 @@ unfolding clearAnswer
 clear-place count rs =
     unless-place (countFits count) BadCount _ (lit< tt)
     (λ _. unless-place (eqb (length rs) (registerWords * count)) BadLength Accepted (lit< tt) (λ _. lit< tt))
-
-pub attributes-place : (count : ℕ) (at : List ℕ) → placeOf (attributesAnswer count at) < 24
-unfolding attributesAnswer
-attributes-place count at =
-    unless-place (countFits count) BadCount _ (lit< tt)
-    (λ p. unless-place (eqb (length at) (attributeWords * count)) BadLength _ (lit< tt)
-    (λ _. refuse-place Attribute (fails Attribute at [] []) count Accepted (few count p) (lit< tt)))

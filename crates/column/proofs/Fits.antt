@@ -3,38 +3,21 @@
 use mathlib.Core.Path.{_≡_}
 use mathlib.Core.Bool.{false}
 use mathlib.Core.List.{List}
-use Prim.Native.Nat.{ℕ, zero, suc, _*_, _^_, _<_}
+use Prim.Native.Nat.{ℕ, zero, suc, _*_, _<_}
 use native.Mathlib.Nat.{le-of-lt}
 use lib.Dec.{lit<}
-use lib.ListN.{length, getD, replicate, length-replicate}
-use borrow.Author.Tests.{leb-false, lt-leb}
-use Rattle.records.specs.Records.{registerWords, portWords, registerWidths, portWidths, Fit, none, more, registersOf, portsOf, registersWords, portsWords}
-use Rattle.records.proofs.Fits.{fit-at, fit-each, zeros-fit}
+use lib.ListN.{replicate, length-replicate}
+use Rattle.records.specs.Records.{registerWords, portWords, registerWidths, portWidths, exceeds, registersWords, portsWords}
+use Rattle.records.proofs.Fits.{Fit, none, more, fit-within, zeros-fit, registers-fit, ports-fit}
 use Rattle.slice.proofs.Widths.{CascadeFit, cascade-fit, next-fit}
 use Rattle.column.specs.declared.Check.the-variants.{Register, Port}
 use Rattle.column.specs.declared.Answer.the-variants.{Accepted}
 use Rattle.column.specs.Column.{stretch, registersAt, portsAt, cascadeInto, nextAt, columnNext}
-use Rattle.column.specs.Refusals.{exceeds, broken, fails, settings}
-use Rattle.column.proofs.Search.{some-false, none-some, lowest-none}
+use Rattle.column.specs.Refusals.{broken, fails, settings}
+use Rattle.column.proofs.Search.{lowest-none}
 use Rattle.column.proofs.Stacks.{stretch-stacked, stacked-zeros}
 use Rattle.column.proofs.Edges.{next-length}
 use Rattle.column.proofs.Answers.{accepted-none}
-
--- ---- the table's check, and what it says of each word
-
-pub within : (widths words : List ℕ) → exceeds widths words ≡ false → (i : ℕ) → i < length widths → getD words i 0 < 2 ^ getD widths i 0
-unfolding exceeds
-within widths words p i h = leb-false (2 ^ getD widths i 0) (getD words i 0) (some-false _ (length widths) i p h)
-
-pub fit-within : {widths words : List ℕ} → Fit widths words → exceeds widths words ≡ false
-unfolding exceeds
-fit-within {widths} {words} f = none-some _ (length widths) (λ i h. lt-leb (2 ^ getD widths i 0) (getD words i 0) (fit-at f i h))
-
-pub registers-fit : (ws : List ℕ) → exceeds registerWidths ws ≡ false → Fit registerWidths (registersWords (registersOf ws))
-registers-fit ws p = fit-each registerWidths (λ i. getD ws i 0) (within registerWidths ws p)
-
-pub ports-fit : (ws : List ℕ) → exceeds portWidths ws ≡ false → Fit portWidths (portsWords (portsOf ws))
-ports-fit ws p = fit-each portWidths (λ i. getD ws i 0) (within portWidths ws p)
 
 -- ---- an accepted clock
 

@@ -1,7 +1,6 @@
 pub mod Search
 pub mod Stacks
 pub mod Answers
-pub mod Faults
 pub mod Edges
 pub mod Fits
 pub mod Passing

@@ -1,4 +1,4 @@
--- Laws of a search: some number below n passes a test, the lowest that does, and the widths of a table. Assumes nothing.
+-- Laws of a search: the lowest number below n that passes a test, and the widths of a table. Assumes nothing.
 use mathlib.Core.Path.{_≡_, refl, subst, subst⁻¹}
 use mathlib.Core.Logic.{⊎-elim, _⊎_, inl, inr}
 use mathlib.Core.Bool.{Bool, true, false, cond, _&&_, _||_}
@@ -10,20 +10,14 @@ use lib.Pow.{pow-pos}
 use lib.Dec.{T, leb, ltb, ltb→lt}
 use lib.ListN.{length, getD}
 use borrow.Author.Tests.{lt-leb, le-leb, leb-true, leb-false}
+use Rattle.records.specs.Records.{attributeWidths}
 use Rattle.column.specs.declared.refusals.Found.{Found}
 use Rattle.column.specs.declared.refusals.Found.the-variants.{Nothing, At}
-use Rattle.column.specs.Refusals.{some, orElse, lowest, countFits}
-use Rattle.column.specs.Parts.{eachBelow, earlierOf}
+use Rattle.column.specs.declared.Check.the-variants.{Attribute}
+use Rattle.column.specs.Refusals.{broken, fails, orElse, lowest, countFits}
+use Rattle.column.specs.Parts.{eachBelow, over, earlierOf, offListAt}
 
 -- ---- two tests, joined
-
-pub or-true : (b : Bool) → b || true ≡ true
-or-true true = refl
-or-true false = refl
-
-pub or-false : (a b : Bool) → a || b ≡ false → (a ≡ false) × (b ≡ false)
-or-false true b p = let z : true ≡ false = p in (cc, cc)
-or-false false b p = (refl, p)
 
 both-left : (a b : Bool) → T (a && b) → T a
 both-left true b t = tt
@@ -53,29 +47,6 @@ shifted-over w x p = by (leb (2 ^ w) x) refl
     by : (b : Bool) → leb (2 ^ w) x ≡ b → leb (2 ^ w) x ≡ true
     by true e = e
     by false e = absurd (p (div-eq-of-lt (leb-false (2 ^ w) x e)))
-
--- ---- some number below n
-
-pub some-true : (f : ℕ → Bool) (n i : ℕ) → i < n → f i ≡ true → some f n ≡ true
-some-true f zero i h p = absurd (not-suc-le-zero h)
-some-true f (suc n) i h p =
-    ⊎-elim
-    (λ (e : i ≡ n). simp (subst (λ (j : ℕ). f j ≡ true) e p, or-true))
-    (λ (l : i < n). simp (some-true f n i l p))
-    (eq-or-lt-of-le (le-of-suc-le-suc h))
-
-pub some-false : (f : ℕ → Bool) (n i : ℕ) → some f n ≡ false → i < n → f i ≡ false
-some-false f zero i p h = absurd (not-suc-le-zero h)
-some-false f (suc n) i p h =
-    let q = or-false (some f n) (f n) p in
-    ⊎-elim
-    (λ (e : i ≡ n). subst⁻¹ (λ (j : ℕ). f j ≡ false) e (q .1))
-    (λ (l : i < n). some-false f n i (q .0) l)
-    (eq-or-lt-of-le (le-of-suc-le-suc h))
-
-pub none-some : (f : ℕ → Bool) (n : ℕ) → ((i : ℕ) → i < n → f i ≡ false) → some f n ≡ false
-none-some f zero h = refl
-none-some f (suc n) h = rw (none-some f n (λ i l. h i (omega arith)), h n (omega arith))
 
 -- ---- the lowest number below n
 
@@ -148,6 +119,12 @@ lowest-or f g zero = refl
 lowest-or f g (suc n) =
     rw (lowest-or f g n)
     (either (lowest f n) (lowest g n) (f n) (g n) n (λ k p. lowest-says f n k p .0) (λ k p. lowest-says g n k p .0))
+
+-- number 3 is a width's or the list's
+pub attribute-parts : (count : ℕ) (at rs ps : List ℕ)
+    → lowest (fails Attribute at rs ps) count ≡ earlierOf (lowest (over attributeWidths at) count) (lowest (offListAt at) count)
+unfolding fails broken over offListAt
+attribute-parts count at rs ps = lowest-or (over attributeWidths at) (offListAt at) count
 
 -- ---- the slice count
 

@@ -1,13 +1,15 @@
 -- A list in stretches of n words, written one stretch after the other: laws for every n. Assumes nothing.
 use mathlib.Core.Path.{_≡_, _∙_, sym, ap, ap₂, subst, refl}
 use mathlib.Core.Logic.{⊎-elim}
-use mathlib.Core.List.{List, [], _∷_, _++_, append-assoc, append-nil}
+use mathlib.Core.List.{List, _++_, append-assoc, append-nil}
 use Prim.Native.Nat.{ℕ, zero, suc, _+_, _*_, _-_, _<_, _≤_}
 use native.Mathlib.Nat.{mul-zero, mul-suc, mul-le-mul-left, not-suc-le-zero, le-of-suc-le-suc, eq-or-lt-of-le}
 use native.Mathlib.Numerals.{add-one}
 use native.Mathlib.Omega.{arith}
 use lib.ListN.{length, take, drop, getD, replicate, length-append, length-take, length-drop, drop-of-length-le, replicate-append-replicate}
 use lib.Seq.{take-at, drop-at, drop-drop, getD-take, getD-drop, take-all, take-append-le, drop-append-le}
+use Rattle.lent.specs.Words.{enough}
+use Rattle.lent.proofs.Laws.{enough-all}
 use Rattle.column.specs.Column.{stretch, stacked}
 
 -- the part from n * k to n * k + n has n words
@@ -20,6 +22,10 @@ in-stretch n {k} {count} {i} h l = omega (arith, mul-suc n k, mul-le-mul-left n 
 
 pub part-length : (n k : ℕ) (ws : List ℕ) → n * k + n ≤ length ws → length (stretch n k ws) ≡ n
 part-length n k ws h = simp (length-take, length-drop) (omega arith)
+
+-- so that a record is read from it whole
+pub enough-part : (n k : ℕ) (ws : List ℕ) → n * k + n ≤ length ws → enough n (stretch n k ws) ≡ stretch n k ws
+enough-part n k ws h = enough-all n (stretch n k ws) (omega (arith, part-length n k ws h))
 
 pub stretch-length : (n k count : ℕ) (ws : List ℕ) → k < count → length ws ≡ n * count → length (stretch n k ws) ≡ n
 stretch-length n k count ws h l = part-length n k ws (omega (arith, mul-suc n k, mul-le-mul-left n h))

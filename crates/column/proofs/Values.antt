@@ -3,14 +3,14 @@ use mathlib.Core.Path.{_≡_, refl}
 use mathlib.Core.List.{List, [], _∷_, _++_}
 use Prim.Native.Nat.{ℕ, _-_, _*_, _^_}
 use lib.ListN.{replicate, set}
-use Rattle.records.specs.Records.{attributeWords}
+use Rattle.records.specs.Records.{attributeWords, exceeds}
 use Rattle.unit.specs.Unit.{arithmetic, lanes, logicRows, unitResult, splitResult, preAdder, product, load}
 use Rattle.unit.specs.Detector.{unmasked, detected}
 use Rattle.slice.specs.Slice.{controlsOf, selectsOf, pathsOf, aSide, dSide, adOf, leftOf, rightOf, productOf, operandsOf, sliceOperands, resultOf, settledOf, sliceSettled, outputsOfSettled, cascadeOf, edge, nextOf, sliceOutputs, sliceCascade, sliceNext}
-use Rattle.slice.specs.Legal.{offList, badInmode, badOpmode, badAlumode, badCarryinsel}
+use Rattle.legal.specs.Legal.{offList, badInmode, badOpmode, badAlumode, badCarryinsel, breaks}
 use Rattle.column.specs.declared.Answer.{Answer}
 use Rattle.column.specs.Column.{cascadeInto, shownAt, nextAt, columnShown, columnNext}
-use Rattle.column.specs.Refusals.{numberOf, placeOf, exceeds, broken, fails, settings, lengthsFit, clockAnswer, clearAnswer, attributesAnswer}
+use Rattle.column.specs.Refusals.{numberOf, placeOf, broken, fails, rules, settings, lengthsFit, clockAnswer, clearAnswer, attributesAnswer}
 
 -- the attributes of n slices, all 0
 abbrev plain : (n : ℕ) → List ℕ
@@ -76,7 +76,7 @@ unfolding columnNext columnShown nextAt shownAt cascadeInto sliceNext nextOf edg
 neighbours = record { before-the-edge = refl; shown-before = refl }
 
 pub refused : Refused
-unfolding clockAnswer clearAnswer attributesAnswer lengthsFit settings fails broken exceeds offList badInmode badOpmode badAlumode badCarryinsel controlsOf selectsOf
+unfolding clockAnswer clearAnswer attributesAnswer lengthsFit rules settings fails broken breaks exceeds offList badInmode badOpmode badAlumode badCarryinsel controlsOf selectsOf
 refused =
     record {
       none = refl;

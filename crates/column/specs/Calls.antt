@@ -1,31 +1,25 @@
--- The public calls as their callers see them: one answer, and one content of every lent word, for all inputs. Assumes nothing.
+-- The public calls as their callers see them: one answer, and one content of every lent word, for all inputs (01, "Refusal numbers":
+-- "A refusal stores nothing, in registers or in outputs"). Assumes nothing.
 use Prim.Native.Nat.{ℕ, _*_}
 use mathlib.Core.Path.{_≡_, _∙_, sym}
 use mathlib.Core.List.{List}
 use lib.ListN.{replicate}
+use Rattle.lent.specs.Refusing.{leaves}
 use Rattle.records.specs.Records.{registerWords}
 use Rattle.column.specs.declared.Answer.{Answer}
-use Rattle.column.specs.declared.Answer.the-variants.{Accepted, BadCount, BadLength, Broken}
 use Rattle.column.specs.Column.{columnShown, columnNext}
-use Rattle.column.specs.Refusals.{clockAnswer, clearAnswer}
-
--- "A refusal stores nothing": the new words where accepted, else those that were there
-abbrev pub leaves : Answer → (new old : List ℕ) → List ℕ
-leaves Accepted new old = new
-leaves BadCount new old = old
-leaves BadLength new old = old
-leaves (Broken check k) new old = old
+use Rattle.column.specs.Refusals.{numberOf, clockAnswer, clearAnswer}
 
 -- `clock`: the answer r, the registers rs′ and the outputs os′ at exit
 pub record Clocked (count : ℕ) (at rs ps os : List ℕ) (r : Answer) (rs′ os′ : List ℕ) : Type 0 where
   pub answer : r ≡ clockAnswer count at rs ps os
-  pub registers : rs′ ≡ leaves (clockAnswer count at rs ps os) (columnNext count at rs ps) rs
-  pub outputs : os′ ≡ leaves (clockAnswer count at rs ps os) (columnShown count at rs ps) os
+  pub registers : rs′ ≡ leaves (numberOf (clockAnswer count at rs ps os)) (columnNext count at rs ps) rs
+  pub outputs : os′ ≡ leaves (numberOf (clockAnswer count at rs ps os)) (columnShown count at rs ps) os
 
 -- `clear`: "Clearing sets all registers to 0"
 pub record Cleared (count : ℕ) (rs : List ℕ) (r : Answer) (rs′ : List ℕ) : Type 0 where
   pub answer : r ≡ clearAnswer count rs
-  pub registers : rs′ ≡ leaves (clearAnswer count rs) (replicate (registerWords * count) 0) rs
+  pub registers : rs′ ≡ leaves (numberOf (clearAnswer count rs)) (replicate (registerWords * count) 0) rs
 
 -- no second outcome fits
 pub one-clock : {count : ℕ} {at rs ps os : List ℕ} {r₁ r₂ : Answer} {rs₁ rs₂ os₁ os₂ : List ℕ}

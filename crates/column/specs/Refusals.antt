@@ -1,13 +1,13 @@
 -- The refusals of a clock, of clearing and of the attributes alone (01, "Refusal numbers"). Assumes nothing.
-use Prim.Native.Nat.{ℕ, zero, suc, _*_, _^_}
+use Prim.Native.Nat.{ℕ, zero, suc, _*_}
 use mathlib.Core.Bool.{Bool, true, false, _&&_, _||_}
 use mathlib.Core.List.{List, []}
 use lib.Dec.{leb, eqb}
-use lib.ListN.{length, getD}
-use Rattle.records.specs.Records.{attributeWords, registerWords, portWords, outputWords, attributeWidths, registerWidths, portWidths, attributesOf, registersOf, portsOf}
-use Rattle.slice.specs.declared.inputs.Controls.{Controls}
-use Rattle.slice.specs.Slice.{controlsOf, selectsOf}
-use Rattle.slice.specs.Legal.{offList, badInmode, badOpmode, badAlumode, badCarryinsel}
+use lib.ListN.{length}
+use Rattle.lent.specs.Refusing.{unless}
+use Rattle.records.specs.Records.{attributeWords, registerWords, portWords, outputWords, attributeWidths, registerWidths, portWidths, exceeds, attributesOf, registersOf, portsOf}
+use Rattle.legal.specs.declared.rules.Rule.the-variants as rule
+use Rattle.legal.specs.Legal.{offList, breaks}
 use Rattle.column.specs.declared.Check.{Check}
 use Rattle.column.specs.declared.Check.the-variants.{Attribute, Register, Port, Inmode, Opmode, Alumode, Carryinsel}
 use Rattle.column.specs.declared.Answer.{Answer}
@@ -39,28 +39,15 @@ placeOf BadCount = 0
 placeOf BadLength = 0
 placeOf (Broken check k) = k
 
--- the test holds at some number below n
-abbrev pub some : (ℕ → Bool) → (n : ℕ) → Bool
-some f zero = false
-some f (suc n) = some f n || f n
-
--- a word exceeds its width
-unfoldable pub exceeds : (widths words : List ℕ) → Bool
-exceeds widths words = some (λ i. leb (2 ^ getD widths i 0) (getD words i 0)) (length widths)
-
--- the control words in effect, of a slice's own words
-abbrev pub inEffect : (at rs ps : List ℕ) → Controls
-inEffect at rs ps = controlsOf (attributesOf at) (registersOf rs) (portsOf ps)
-
 -- Given exactly when: a slice's own words break the check
 unfoldable pub broken : Check → (at rs ps : List ℕ) → Bool
 broken Attribute at rs ps = exceeds attributeWidths at || offList (attributesOf at)
 broken Register at rs ps = exceeds registerWidths rs
 broken Port at rs ps = exceeds portWidths ps
-broken Inmode at rs ps = badInmode (attributesOf at) (inEffect at rs ps)
-broken Opmode at rs ps = badOpmode (attributesOf at) (selectsOf (inEffect at rs ps .opmode))
-broken Alumode at rs ps = badAlumode (inEffect at rs ps .alumode) (selectsOf (inEffect at rs ps .opmode))
-broken Carryinsel at rs ps = badCarryinsel (attributesOf at) (inEffect at rs ps)
+broken Inmode at rs ps = breaks rule.Inmode (attributesOf at) (registersOf rs) (portsOf ps)
+broken Opmode at rs ps = breaks rule.Opmode (attributesOf at) (registersOf rs) (portsOf ps)
+broken Alumode at rs ps = breaks rule.Alumode (attributesOf at) (registersOf rs) (portsOf ps)
+broken Carryinsel at rs ps = breaks rule.Carryinsel (attributesOf at) (registersOf rs) (portsOf ps)
 
 -- slice k of the lent words fails the check
 unfoldable pub fails : Check → (at rs ps : List ℕ) → (k : ℕ) → Bool
@@ -80,21 +67,22 @@ abbrev pub refuse : Check → Found → Answer → Answer
 refuse check Nothing next = next
 refuse check (At k) next = Broken check k
 
-abbrev pub unless : Bool → Answer → Answer → Answer
-unless true refused next = next
-unless false refused next = refused
+-- 6 to 9, each over all slices before the next
+unfoldable pub rules : (count : ℕ) → (at rs ps : List ℕ) → Answer
+rules count at rs ps =
+    refuse Inmode (lowest (fails Inmode at rs ps) count)
+    (refuse Opmode (lowest (fails Opmode at rs ps) count)
+    (refuse Alumode (lowest (fails Alumode at rs ps) count)
+    (refuse Carryinsel (lowest (fails Carryinsel at rs ps) count)
+    Accepted)))
 
--- 3 to 9, each over all slices before the next
+-- 3 to 9, each over all slices before the next: 3 to 5, then the rules
 unfoldable pub settings : (count : ℕ) → (at rs ps : List ℕ) → Answer
 settings count at rs ps =
     refuse Attribute (lowest (fails Attribute at rs ps) count)
     (refuse Register (lowest (fails Register at rs ps) count)
     (refuse Port (lowest (fails Port at rs ps) count)
-    (refuse Inmode (lowest (fails Inmode at rs ps) count)
-    (refuse Opmode (lowest (fails Opmode at rs ps) count)
-    (refuse Alumode (lowest (fails Alumode at rs ps) count)
-    (refuse Carryinsel (lowest (fails Carryinsel at rs ps) count)
-    Accepted))))))
+    (rules count at rs ps)))
 
 -- 1: slice count is not 1 to 24
 abbrev pub countFits : (count : ℕ) → Bool

@@ -7,8 +7,6 @@ ghost use Rattle.records.specs.Records.{registerWords, outputWords};
 ghost use Rattle.column.specs.Parts.{Lengths, Edged, AllEdged};
 use crate::stretch::attributes_at;
 use crate::stretch::ports_at;
-use crate::stretch::registers_of;
-use crate::stretch::store;
 use records::Attributes;
 use records::Outputs;
 use records::Ports;
@@ -27,12 +25,12 @@ fn one_edge(
     ensures { λ up.
         ⌜ Edged a (now (registers .entry)) p below up (now (registers .exit)) (now (outputs .exit)) ⌝ }
 {
-    let r = registers_of(&registers[..]);
+    let r = Registers::of(&registers[..]);
     let step = slice::stepped(a, r, p, below);
     let next = step.next.words();
     let shown = step.shown.words();
-    store(registers, &next);
-    store(outputs, &shown);
+    lent::store(registers, &next);
+    lent::store(outputs, &shown);
     step.up
 }
 

@@ -60,7 +60,7 @@ pub fn clear(count: usize, registers: &mut [u64]) -> Answer
     let Answer::Accepted = answer else {
         return answer;
     };
-    stretch::zero(registers);
+    lent::zero(registers);
     Answer::Accepted
 }
 

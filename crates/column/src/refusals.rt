@@ -3,18 +3,18 @@ ghost use mathlib.Core.Path.{_≡_};
 ghost use mathlib.Core.Bool.{true};
 ghost use mathlib.Core.List.{[]};
 ghost use Prim.Native.Nat.{_≤_, _*_};
-ghost use lib.Dec.{T};
 ghost use lib.ListN.{length};
 ghost use Rattle.records.specs.Records.{attributeWords};
 ghost use Rattle.column.specs.declared.Check.the-variants.{Attribute};
 ghost use Rattle.column.specs.declared.Answer.the-variants.{Accepted};
-ghost use Rattle.column.specs.Refusals.{checkNumber, lowest, refuse, settings, countFits, lengthsFit, clockAnswer, clearAnswer, attributesAnswer};
-ghost use Rattle.column.specs.Parts.{Lengths, Table, over, earlierOf, faulty, FirstFault, offListOf, judgedBy};
+ghost use Rattle.column.specs.Refusals.{checkNumber, fails, lowest, refuse, rules, settings, countFits, lengthsFit, clockAnswer, clearAnswer, attributesAnswer};
+ghost use Rattle.column.specs.Parts.{Lengths, Table, over, earlierOf, offListAt, breaksAt};
 use crate::Answer;
 use crate::Check;
 use crate::stretch::attributes_at;
 use crate::stretch::ports_at;
 use crate::stretch::registers_at;
+use legal::Rule;
 use records::Attributes;
 use records::Outputs;
 use records::Ports;
@@ -23,12 +23,6 @@ use records::Registers;
 pub enum Found {
     Nothing,
     At(usize),
-}
-
-// The first fault of a column's settings: its number, and the lowest slice that has it. 10 where there is none.
-pub struct First {
-    pub number: u64,
-    pub slice: usize,
 }
 
 pub fn check_number(check: Check) -> u64
@@ -77,66 +71,52 @@ fn earlier(f: Found, g: Found) -> Found
     }
 }
 
-// One pass over the slices' settings. A fault of a lower number comes before one of a lower slice.
-fn first_fault(count: usize, attributes: &[u64], registers: &[u64], ports: &[u64]) -> First
-    requires { ⌜ (count ≤ 24) × Lengths count (now attributes) (now registers) (now ports) ⌝ }
-    ensures { λ r. ⌜ FirstFault count (now (attributes .entry)) (now (registers .entry)) (now (ports .entry)) r ⌝ }
-{
-    let mut number = 10;
-    let mut place = 0;
-    for k in 0..count {
-        let fault = slice::fault_of(
-            attributes_at(attributes, k),
-            registers_at(registers, k),
-            ports_at(ports, k),
-        );
-        if fault < number {
-            number = fault;
-            place = k;
-        }
-    }
-    First {
-        number: number,
-        slice: place,
-    }
-}
-
-// The lowest slice whose attributes are off their list. A list's fault comes before any that the registers and ports can have.
+// The lowest slice whose attributes are off their list.
 fn first_off_list(count: usize, attributes: &[u64]) -> Found
     requires { ⌜ (count ≤ 24) × (length (now attributes) ≡ attributeWords * count) ⌝ }
-    ensures { λ r. ⌜ r ≡ lowest (faulty Attribute (now (attributes .entry)) [] []) count ⌝ }
+    ensures { λ r. ⌜ r ≡ lowest (offListAt (now (attributes .entry))) count ⌝ }
 {
     for k in 0..count {
-        let settings = attributes_at(attributes, k);
-        if slice::fault_of(settings, Registers::cleared(), Ports::cleared()) == 3 {
+        if legal::off_list(attributes_at(attributes, k)) {
             return Found::At(k);
         }
     }
     Found::Nothing
 }
 
-fn off_list(first: First) -> Found
-    ensures { λ r. ⌜ r ≡ offListOf first ⌝ }
+// The lowest slice whose settings break a rule.
+fn first_breaking(
+    rule: Rule,
+    count: usize,
+    attributes: &[u64],
+    registers: &[u64],
+    ports: &[u64],
+) -> Found
+    requires { ⌜ (count ≤ 24) × Lengths count (now attributes) (now registers) (now ports) ⌝ }
+    ensures { λ r. ⌜ r ≡ lowest (breaksAt rule (now (attributes .entry)) (now (registers .entry)) (now (ports .entry))) count ⌝ }
 {
-    if first.number == 3 {
-        Found::At(first.slice)
-    } else {
-        Found::Nothing
+    for k in 0..count {
+        if legal::breaks(
+            rule,
+            attributes_at(attributes, k),
+            registers_at(registers, k),
+            ports_at(ports, k),
+        ) {
+            return Found::At(k);
+        }
     }
+    Found::Nothing
 }
 
-// 6 to 9.
-fn judged(first: First) -> Answer
-    ensures { λ r. ⌜ r ≡ judgedBy first ⌝ }
+// Number 3: a word over its width, or off its list.
+fn first_bad_attributes(count: usize, attributes: &[u64]) -> Found
+    requires { ⌜ (count ≤ 24) × (length (now attributes) ≡ attributeWords * count) ⌝ }
+    ensures { λ r. ⌜ r ≡ lowest (fails Attribute (now (attributes .entry)) [] []) count ⌝ }
 {
-    let number = first.number;
-    match number {
-        6 => Answer::Broken(Check::Inmode, first.slice),
-        7 => Answer::Broken(Check::Opmode, first.slice),
-        8 => Answer::Broken(Check::Alumode, first.slice),
-        9 => Answer::Broken(Check::Carryinsel, first.slice),
-        _ => Answer::Accepted,
-    }
+    earlier(
+        first_over(&Attributes::WIDTHS, attributes, count),
+        first_off_list(count, attributes),
+    )
 }
 
 fn refuse(check: Check, found: Found, next: Answer) -> Answer
@@ -148,22 +128,36 @@ fn refuse(check: Check, found: Found, next: Answer) -> Answer
     }
 }
 
-// One pass tells that a column breaks none of the checks 3 to 9, as most break none.
-fn all_sound(count: usize, attributes: &[u64], registers: &[u64], ports: &[u64]) -> bool
+// `true` only where no slice breaks any of the checks 3 to 9, as in most columns; else the checks themselves decide.
+fn nothing_broken(count: usize, attributes: &[u64], registers: &[u64], ports: &[u64]) -> bool
     requires { ⌜ (count ≤ 24) × Lengths count (now attributes) (now registers) (now ports) ⌝ }
     ensures { λ r.
         ⌜ (r ≡ true → settings count (now (attributes .entry)) (now (registers .entry)) (now (ports .entry)) ≡ Accepted) ⌝ }
 {
     for k in 0..count {
-        if !slice::is_sound(
-            attributes_at(attributes, k),
-            registers_at(registers, k),
-            ports_at(ports, k),
-        ) {
+        let r = registers_at(registers, k);
+        let p = ports_at(ports, k);
+        let a = attributes_at(attributes, k);
+        if !legal::breaks_nothing(a, r, p) {
             return false;
         }
     }
     true
+}
+
+// Checks 6 to 9, in their order.
+fn rules_answer(count: usize, attributes: &[u64], registers: &[u64], ports: &[u64]) -> Answer
+    requires { ⌜ (count ≤ 24) × Lengths count (now attributes) (now registers) (now ports) ⌝ }
+    ensures { λ r. ⌜ r ≡ rules count (now (attributes .entry)) (now (registers .entry)) (now (ports .entry)) ⌝ }
+{
+    let inmode = first_breaking(Rule::Inmode, count, attributes, registers, ports);
+    let opmode = first_breaking(Rule::Opmode, count, attributes, registers, ports);
+    let alumode = first_breaking(Rule::Alumode, count, attributes, registers, ports);
+    let carryinsel = first_breaking(Rule::Carryinsel, count, attributes, registers, ports);
+    let from_9 = refuse(Check::Carryinsel, carryinsel, Answer::Accepted);
+    let from_8 = refuse(Check::Alumode, alumode, from_9);
+    let from_7 = refuse(Check::Opmode, opmode, from_8);
+    refuse(Check::Inmode, inmode, from_7)
 }
 
 // Checks 3 to 9, in their order.
@@ -171,14 +165,11 @@ fn settings_answer(count: usize, attributes: &[u64], registers: &[u64], ports: &
     requires { ⌜ (count ≤ 24) × Lengths count (now attributes) (now registers) (now ports) ⌝ }
     ensures { λ r. ⌜ r ≡ settings count (now (attributes .entry)) (now (registers .entry)) (now (ports .entry)) ⌝ }
 {
-    let first = first_fault(count, attributes, registers, ports);
-    let attribute = earlier(
-        first_over(&Attributes::WIDTHS, attributes, count),
-        off_list(first),
-    );
+    let attribute = first_bad_attributes(count, attributes);
     let register = first_over(&Registers::WIDTHS, registers, count);
     let port = first_over(&Ports::WIDTHS, ports, count);
-    let from_5 = refuse(Check::Port, port, judged(first));
+    let from_6 = rules_answer(count, attributes, registers, ports);
+    let from_5 = refuse(Check::Port, port, from_6);
     let from_4 = refuse(Check::Register, register, from_5);
     refuse(Check::Attribute, attribute, from_4)
 }
@@ -223,7 +214,7 @@ pub fn clock_answer(
     if !lengths_fit(count, attributes, registers, ports, outputs) {
         return Answer::BadLength;
     }
-    if all_sound(count, attributes, registers, ports) {
+    if nothing_broken(count, attributes, registers, ports) {
         return Answer::Accepted;
     }
     settings_answer(count, attributes, registers, ports)
@@ -252,9 +243,6 @@ pub fn attributes_answer(count: usize, attributes: &[u64]) -> Answer
     if attributes.len() != Attributes::WORDS * count {
         return Answer::BadLength;
     }
-    let attribute = earlier(
-        first_over(&Attributes::WIDTHS, attributes, count),
-        first_off_list(count, attributes),
-    );
+    let attribute = first_bad_attributes(count, attributes);
     refuse(Check::Attribute, attribute, Answer::Accepted)
 }

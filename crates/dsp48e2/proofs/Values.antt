@@ -1,6 +1,6 @@
 -- Facts by value that pin the border's rule. Assumes nothing.
 use mathlib.Core.Path.{_≡_, refl}
-use Prim.Native.Nat.{_+_, _^_}
+use Prim.Native.Nat.{_^_}
 use Rattle.unit.specs.Unit.{adder}
 use Rattle.column.specs.declared.Check.the-variants.{Opmode}
 use Rattle.column.specs.declared.Answer.the-variants.{Accepted, BadLength, Broken}

@@ -1,5 +1,5 @@
--- The border for C: every call on plain numbers and lent words, and one rule for refusals. A slice passes as a pointer and a length.
--- Assumes nothing.
+-- The border for C (01, "Adder call for the C bench", and the other calls alike): every call on plain numbers and lent words, and one
+-- rule for refusals, of which the adder's two are the place 0. A slice passes as a pointer and a length. Assumes nothing.
 use Prim.Native.Nat.{ℕ, _+_, _*_, _^_}
 use mathlib.Core.Path.{_≡_, _∙_, sym}
 use mathlib.Core.Bool.{cond}
@@ -7,14 +7,14 @@ use mathlib.Core.List.{List}
 use lib.Dec.{eqb}
 use lib.IntN.{ℤ}
 use lib.ListN.{replicate}
+use Rattle.lent.specs.Refusing.{leaves}
 use Rattle.records.specs.Records.{registerWords}
 use Rattle.column.specs.declared.Answer.{Answer}
 use Rattle.column.specs.Column.{columnShown, columnNext}
 use Rattle.column.specs.Refusals.{numberOf, placeOf, clockAnswer, clearAnswer}
-use Rattle.column.specs.Calls.{leaves}
 use Rattle.packed.specs.declared.Run.{Run}
 use Rattle.packed.specs.Packed.{Batch, runList, readAnswers, plainAnswers}
-use Rattle.packed.specs.Calls.{numberOf as runNumber, clocksOf, leaves as runLeaves, clockedRun, plainRun}
+use Rattle.packed.specs.Calls.{numberOf as runNumber, clocksOf, clockedRun, plainRun}
 
 -- a refusal: 2^48, 256 for each slice below the one reported, and the number
 abbrev pub refusal : (place number : ℕ) → ℕ
@@ -27,13 +27,13 @@ wordOf a = cond (eqb (numberOf a) 0) 0 (refusal (placeOf a) (numberOf a))
 -- `dsp_clock`: the returned word r, the registers rs′ and the outputs os′ at exit
 pub record ClockedC (count : ℕ) (at rs ps os : List ℕ) (r : ℕ) (rs′ os′ : List ℕ) : Type 0 where
   pub word : r ≡ wordOf (clockAnswer count at rs ps os)
-  pub registers : rs′ ≡ leaves (clockAnswer count at rs ps os) (columnNext count at rs ps) rs
-  pub outputs : os′ ≡ leaves (clockAnswer count at rs ps os) (columnShown count at rs ps) os
+  pub registers : rs′ ≡ leaves (numberOf (clockAnswer count at rs ps os)) (columnNext count at rs ps) rs
+  pub outputs : os′ ≡ leaves (numberOf (clockAnswer count at rs ps os)) (columnShown count at rs ps) os
 
 -- `dsp_clear`
 pub record ClearedC (count : ℕ) (rs : List ℕ) (r : ℕ) (rs′ : List ℕ) : Type 0 where
   pub word : r ≡ wordOf (clearAnswer count rs)
-  pub registers : rs′ ≡ leaves (clearAnswer count rs) (replicate (registerWords * count) 0) rs
+  pub registers : rs′ ≡ leaves (numberOf (clearAnswer count rs)) (replicate (registerWords * count) 0) rs
 
 -- the returned word of a packed run: the clocks it stepped, which are 0 for the plain run
 unfoldable pub runWord : Run → ℕ
@@ -42,14 +42,14 @@ runWord run = cond (eqb (runNumber run) 0) (clocksOf run) (refusal 0 (runNumber 
 -- `dsp_packed_clocked`, of the lent answers os and the lent list ws
 pub record ClockedRunC (g : Batch) (os : List ℤ) (ws : List ℕ) (r : ℕ) (os′ : List ℤ) (ws′ : List ℕ) : Type 0 where
   pub word : r ≡ runWord (clockedRun g os ws)
-  pub list : ws′ ≡ runLeaves (clockedRun g os ws) (runList g) ws
-  pub answers : os′ ≡ runLeaves (clockedRun g os ws) (readAnswers (g .terms) (g .rows) (runList g)) os
-  pub exact : os′ ≡ runLeaves (clockedRun g os ws) (plainAnswers g) os
+  pub list : ws′ ≡ leaves (runNumber (clockedRun g os ws)) (runList g) ws
+  pub answers : os′ ≡ leaves (runNumber (clockedRun g os ws)) (readAnswers (g .terms) (g .rows) (runList g)) os
+  pub exact : os′ ≡ leaves (runNumber (clockedRun g os ws)) (plainAnswers g) os
 
 -- `dsp_packed_plain`
 pub record PlainRunC (g : Batch) (os : List ℤ) (r : ℕ) (os′ : List ℤ) : Type 0 where
   pub word : r ≡ runWord (plainRun g os)
-  pub answers : os′ ≡ runLeaves (plainRun g os) (plainAnswers g) os
+  pub answers : os′ ≡ leaves (runNumber (plainRun g os)) (plainAnswers g) os
 
 -- no second outcome fits
 pub one-clock : {count : ℕ} {at rs ps os : List ℕ} {r₁ r₂ : ℕ} {rs₁ rs₂ os₁ os₂ : List ℕ}

@@ -142,7 +142,7 @@ fn turns(
     line: &mut [u8],
     out: &mut [u8],
 ) {
-    let mut left: u64 = 18446744073709551615;
+    let mut left = u64::MAX;
     while 0 < left {
         if !turn(
             text,

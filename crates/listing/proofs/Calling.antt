@@ -8,10 +8,12 @@ use lib.Dec.{eqb, leb, ltb}
 use lib.ListN.{length}
 use borrow.Author.Tests.{eqb-true, leb-true, ltb-true}
 use Rattle.records.specs.Records.{attributeWords, registerWords, portWords, outputWords}
+use Rattle.text.specs.Bytes.{mostBytes}
 use Rattle.text.proofs.Paste.{put-none}
 use Rattle.listing.specs.declared.player.Player.{Player}
 use Rattle.listing.specs.declared.machine.Run.{Run}
-use Rattle.listing.specs.Listing.{mostSlices, mostBytes, Play, working}
+use Rattle.listing.specs.Limits.{mostSlices, countBound}
+use Rattle.listing.specs.Listing.{Play, working}
 use Rattle.listing.specs.Calls.{playerNumbers, playerOf, playerWords, Lent, lending, playOf, lentOf, lengthsFit, numbersFit, fitsBy, fits, lentAfter, goesAfter, outcomeOf, PiecePlayed}
 use Rattle.listing.specs.Parts.{Able, Frames, playing, Ran}
 use Rattle.word.proofs.Laws.{both-true}
@@ -25,18 +27,18 @@ left a b h = both-true a b h .0
 right : (a b : Bool) → a && b ≡ true → b ≡ true
 right a b h = both-true a b h .1
 
-pub numbers-able : (n : ℕ) (q : Player) → numbersFit n q ≡ true → Able q n
+numbers-able : (n : ℕ) (q : Player) → numbersFit n q ≡ true → Able q n
 numbers-able n q h =
     let a = leb (q .count) mostSlices in
     let b = ltb (q .given) mostSlices in
     let c = leb (q .held) mostBytes in
-    let d = ltb n (18446744073709551615 - q .clocks) in
-    let e = ltb n (18446744073709551615 - q .lines) in
+    let d = ltb n (countBound - q .clocks) in
+    let e = ltb n (countBound - q .lines) in
     let four = left (a && b && c && d) e h in
     let three = left (a && b && c) d four in
     let two = left (a && b) c three in
-    let clocks = ltb-true n (18446744073709551615 - q .clocks) (right (a && b && c) d four) in
-    let lines = ltb-true n (18446744073709551615 - q .lines) (right (a && b && c && d) e h) in
+    let clocks = ltb-true n (countBound - q .clocks) (right (a && b && c) d four) in
+    let lines = ltb-true n (countBound - q .lines) (right (a && b && c && d) e h) in
     record {
       fair = record {
         count = leb-true (q .count) mostSlices (left a b two);
@@ -47,7 +49,7 @@ numbers-able n q h =
       lines = omega (arith, lines);
     }
 
-pub lengths-frames : (at rs ps os bytes : List ℕ) → lengthsFit (length at) (length rs) (length ps) (length os) (length bytes) ≡ true
+lengths-frames : (at rs ps os bytes : List ℕ) → lengthsFit (length at) (length rs) (length ps) (length os) (length bytes) ≡ true
     → Frames at rs ps os bytes
 lengths-frames at rs ps os bytes h =
     let a = eqb (length at) (attributeWords * mostSlices) in
@@ -100,7 +102,9 @@ module _ (piece : List ℕ) (l : Lent) (out : List ℕ) where
       → PiecePlayed piece l out (record { used = r .used; made = r .made; goes = goes }) (lending ns at rs ps os line) out′
   unfolding outcomeOf lentAfter goesAfter playOf lentOf
   piece-played h q r ns at rs ps os line out′ goes e ran stored phase =
-      let go = subst (λ (x : Player). Ran (playing x (l .attributes) (l .registers) (l .ports) (l .outputs) (l .line)) piece out r (playing (r .player) at rs ps os line) out′) e ran in
+      let left = playing (r .player) at rs ps os line in
+      let go =
+      subst (λ (x : Player). Ran (playing x (l .attributes) (l .registers) (l .ports) (l .outputs) (l .line)) piece out r left out′) e ran in
       record {
         used = rw h (go .used);
         goes = rw h (phase ∙ ap (λ (p : Play). working (p .player .phase)) (go .play));

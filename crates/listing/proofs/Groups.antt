@@ -19,6 +19,8 @@ use Rattle.listing.specs.declared.player.Phase.{Phase}
 use Rattle.listing.specs.declared.player.Phase.the-variants.{Settings, Clocks}
 use Rattle.listing.specs.declared.player.Player.{Player}
 use Rattle.listing.specs.declared.player.Step.{Step}
+use Rattle.listing.specs.Letters.{letterP}
+use Rattle.listing.specs.Limits.{mostSlices}
 use Rattle.listing.specs.Steps.{oneMore, goesOn, refusal, groupStep, settingsStep, clockStep}
 use Rattle.listing.specs.Listing.{Left, leaving, settingsLine, settingsOf, clockOf, lineLeaves, portsLeave}
 use Rattle.listing.specs.Parts.{SettingsRead, SettingsTaken, PortsTaken}
@@ -42,7 +44,7 @@ module _ (q : Player) (well : Bool) (whole : Step) where
 -- ---- the words of a line, read into their slice's stretch
 
 -- a slice's stretch lies within the words of 24
-pub stretch-room : (n k : ℕ) (ws : List ℕ) → k < 24 → length ws ≡ n * 24 → n * k + n ≤ length ws
+pub stretch-room : (n k : ℕ) (ws : List ℕ) → k < mostSlices → length ws ≡ n * mostSlices → n * k + n ≤ length ws
 stretch-room n k ws h l = omega (arith, mul-suc n k, mul-le-mul-left n h)
 
 -- what stands at the stretch of slice k once got was put there
@@ -55,15 +57,15 @@ pub record ReadIn (x : Numbers) (n k : ℕ) (ws : List ℕ) (r : Bool) (got : Li
   pub words : put-at n k ws got ≡ pasted (n * k) (wordsOf n x) ws
   pub long : length (put-at n k ws got) ≡ length ws
 
-module _ (n k : ℕ) (ws : List ℕ) (h : k < 24) (l : length ws ≡ n * 24) where
+module _ (n k : ℕ) (ws : List ℕ) (h : k < mostSlices) (l : length ws ≡ n * mostSlices) where
   -- what is lent of them
   abbrev lent : List ℕ
   lent = take (n * k + n - n * k) (drop (n * k) ws)
 
-  pub lent-length : length lent ≡ n
+  lent-length : length lent ≡ n
   lent-length = let room = stretch-room n k ws h l in simp (length-take, length-drop) (omega arith)
 
-  pub read-in : (x : Numbers) {r : Bool} {got : List ℕ} → length (wordsOf n x) ≡ n → r ≡ isWell x → got ≡ wordsOf n x → ReadIn x n k ws r got
+  read-in : (x : Numbers) {r : Bool} {got : List ℕ} → length (wordsOf n x) ≡ n → r ≡ isWell x → got ≡ wordsOf n x → ReadIn x n k ws r got
   read-in x {got = got} long e f =
       let end : drop (n * k + n - n * k) (drop (n * k) ws) ≡ drop (n * k + length (wordsOf n x)) ws =
       ap (λ (m : ℕ). drop m (drop (n * k) ws)) (part-count n k) ∙ drop-drop n (n * k) ws ∙ ap (λ (m : ℕ). drop (n * k + m) ws) (sym long) in
@@ -81,7 +83,7 @@ module _ (n k : ℕ) (ws : List ℕ) (h : k < 24) (l : length ws ≡ n * 24) whe
       (t .words ∙ ap (λ (m : ℕ). wordsOf m (lineOf letter m line)) lent-length)
 
 -- an `A` line whose numbers were read into the stretch of slice k
-pub settings-in : (k : ℕ) (ws : List ℕ) → k < 24 → length ws ≡ attributeWords * 24 → (line : List ℕ) {r : Bool} {got : List ℕ}
+pub settings-in : (k : ℕ) (ws : List ℕ) → k < mostSlices → length ws ≡ attributeWords * mostSlices → (line : List ℕ) {r : Bool} {got : List ℕ}
     → SettingsRead line r got → ReadIn (settingsLine line) attributeWords k ws r got
 settings-in k ws h l line t = read-in attributeWords k ws h l (settingsLine line) (settings-length line) (t .well) (t .words)
 
@@ -99,5 +101,6 @@ module _ (q : Player) (line at rs ps os : List ℕ) (r : Step) where
   pub ports-left : (rs′ ps′ os′ : List ℕ) → PortsTaken q line at rs ps os r rs′ ps′ os′ → leaving r at rs′ ps′ os′ ≡ lineLeaves Clocks q line at rs ps os
   ports-left rs′ ps′ os′ t =
       ap (λ (s : Step). leaving s at rs′ ps′ os′) (t .step)
-      ∙ ap₂ (λ (x y : List ℕ). leaving (groupStep q (isWell (lineOf 80 portWords line)) (clockStep q (clockOf q at rs ps′ os))) at x ps′ y) (t .registers) (t .outputs)
-      ∙ ap (λ (l : List ℕ). portsLeave q (lineOf 80 portWords line) at rs l os) (t .ports)
+      ∙ ap₂ (λ (x y : List ℕ). leaving (groupStep q (isWell (lineOf letterP portWords line)) (clockStep q (clockOf q at rs ps′ os))) at x ps′ y)
+      (t .registers) (t .outputs)
+      ∙ ap (λ (l : List ℕ). portsLeave q (lineOf letterP portWords line) at rs l os) (t .ports)

@@ -1,14 +1,15 @@
 -- What a player's numbers keep to, from byte to byte. Assumes nothing.
 use mathlib.Core.Path.{_≡_, refl}
 use mathlib.Core.Bool.{Bool, true, false, cond}
-use mathlib.Core.List.{List, [], _∷_, _++_}
-use Prim.Native.Nat.{ℕ, suc, _+_, _<_}
+use mathlib.Core.List.{List}
+use Prim.Native.Nat.{ℕ, suc, _+_, _<_, _≤_}
 use native.Mathlib.Omega.{arith}
 use lib.Dec.{leb, eqb}
 use lib.ListN.{getD}
 use borrow.Author.Tests.{leb-true, leb-false, eqb-false}
 use Rattle.column.specs.declared.Answer.{Answer}
 use Rattle.column.specs.Refusals.{numberOf, placeOf, countFits}
+use Rattle.text.specs.Bytes.{newline, mostBytes}
 use Rattle.text.specs.Numbers.{Numbers, isWell, wordsOf, lineOf}
 use Rattle.word.proofs.Laws.{both-true}
 use Rattle.records.specs.Records.{attributeWords, portWords}
@@ -16,6 +17,8 @@ use Rattle.listing.specs.declared.player.Phase.{Phase}
 use Rattle.listing.specs.declared.player.Phase.the-variants.{Head, Settings, Clocks, Stopped}
 use Rattle.listing.specs.declared.player.Player.{Player}
 use Rattle.listing.specs.declared.player.Step.{Step}
+use Rattle.listing.specs.Letters.{letterN, letterP}
+use Rattle.listing.specs.Limits.{mostSlices, countBound}
 use Rattle.listing.specs.Steps.{counted, oneMore, named, goesOn, refusal, lastOfGroup, answered, headStep, groupStep, settingsStep, clockStep}
 use Rattle.listing.specs.Listing.{settingsLine, Play, Turn, working, lineTurn, partTurn, lineLeaves, byteTurn, settingsOf, clockOf, placed}
 use Rattle.listing.specs.Parts.{Fair, Able}
@@ -29,7 +32,7 @@ either P false s t f g = g refl
 abbrev Goes : (n : ℕ) → Step → Type 0
 Goes n s = Able (s .player) n
 
-module _ (q : Player) (n : ℕ) (fair : Fair q) (clocks : q .clocks + suc n < 18446744073709551615) (lines : q .lines + n < 18446744073709551615) where
+module _ (q : Player) (n : ℕ) (fair : Fair q) (clocks : q .clocks + suc n < countBound) (lines : q .lines + n < countBound) where
   halts : (number place : ℕ) → Goes n (refusal q number place)
   halts number place =
       record { fair = record { count = fair .count; given = omega arith; held = omega arith }; clocks = omega arith; lines = lines }
@@ -41,7 +44,9 @@ module _ (q : Player) (n : ℕ) (fair : Fair q) (clocks : q .clocks + suc n < 18
       either (Goes n) (isWell x) _ _
       (λ w.
       either (Goes n) (countFits c) (goesOn (named q c)) (refusal q 1 0)
-      (λ e. record { fair = record { count = leb-true c 24 (both-true (leb 1 c) (leb c 24) e .1); given = omega arith; held = fair .held }; clocks = omega arith; lines = lines })
+      (λ e.
+      let few = leb-true c mostSlices (both-true (leb 1 c) (leb c mostSlices) e .1) in
+      record { fair = record { count = few; given = omega arith; held = fair .held }; clocks = omega arith; lines = lines })
       (λ e. halts 1 0))
       (λ w. halts 12 (q .lines))
 
@@ -67,15 +72,16 @@ module _ (q : Player) (n : ℕ) (fair : Fair q) (clocks : q .clocks + suc n < 18
       either (Goes n) (lastOfGroup q) whole (goesOn (oneMore q))
       (λ e. g)
       (λ e.
-      record { fair = record { count = fair .count; given = omega (arith, leb-false (q .count) (q .given + 1) e, fair .count); held = fair .held }; clocks = omega arith; lines = lines }))
+      let more : q .given + 1 < mostSlices = omega (arith, leb-false (q .count) (q .given + 1) e, fair .count) in
+      record { fair = record { count = fair .count; given = more; held = fair .held }; clocks = omega arith; lines = lines }))
       (λ w. halts 12 (q .lines))
 
   line-goes : (f : Phase) (line at rs ps os : List ℕ) → Goes n (lineLeaves f q line at rs ps os .step)
-  line-goes Head line at rs ps os = head-goes (lineOf 78 1 line)
+  line-goes Head line at rs ps os = head-goes (lineOf letterN 1 line)
   line-goes Settings line at rs ps os =
       group-goes (isWell (settingsLine line)) _ (settings-go (settingsOf q (placed attributeWords q (settingsLine line) at)))
   line-goes Clocks line at rs ps os =
-      group-goes (isWell (lineOf 80 portWords line)) _ (clock-goes (clockOf q at rs (placed portWords q (lineOf 80 portWords line) ps) os))
+      group-goes (isWell (lineOf letterP portWords line)) _ (clock-goes (clockOf q at rs (placed portWords q (lineOf letterP portWords line) ps) os))
   line-goes Stopped line at rs ps os = record { fair = fair; clocks = omega arith; lines = lines }
 
 -- a byte takes at most one of the lines and clocks that there is room for
@@ -83,17 +89,28 @@ pub byte-goes : (p : Play) (b n : ℕ) → Able (p .player) (suc n) → Able (by
 unfolding byteTurn
 byte-goes p b n a =
     choose (working (p .player .phase)) _ _
-    (choose (eqb b 10) (lineTurn p) (partTurn p b)
-    (line-goes (counted (p .player)) n (record { count = a .fair .count; given = a .fair .given; held = omega arith }) (a .clocks) (omega (arith, a .lines)) (p .player .phase) _ _ _ _ _)
-    (part (eqb (p .player .held) 512) refl))
-    (record { fair = a .fair; clocks = omega (arith, a .clocks); lines = omega (arith, a .lines) })
+    (choose (eqb b newline) (lineTurn p) (partTurn p b)
+    (line-goes (counted (p .player)) n (record { count = a .fair .count; given = a .fair .given; held = omega arith }) (a .clocks) lines
+    (p .player .phase) _ _ _ _ _)
+    (part (eqb (p .player .held) mostBytes) refl))
+    (record { fair = a .fair; clocks = clocks; lines = fewer })
   where
+    clocks : p .player .clocks + n < countBound
+    clocks = omega (arith, a .clocks)
+
+    fewer : p .player .lines + n < countBound
+    fewer = omega (arith, a .lines)
+
+    lines : p .player .lines + 1 + n < countBound
+    lines = omega (arith, a .lines)
+
     choose : (t : Bool) (u v : Turn) → Able (u .play .player) n → Able (v .play .player) n → Able (cond t u v .play .player) n
     choose true u v f g = f
     choose false u v f g = g
 
-    part : (t : Bool) → eqb (p .player .held) 512 ≡ t → Able (partTurn p b .play .player) n
-    part true e = rw e (record { fair = record { count = a .fair .count; given = omega arith; held = omega arith }; clocks = omega (arith, a .clocks); lines = omega (arith, a .lines) })
+    part : (t : Bool) → eqb (p .player .held) mostBytes ≡ t → Able (partTurn p b .play .player) n
+    part true e =
+        rw e (record { fair = record { count = a .fair .count; given = omega arith; held = omega arith }; clocks = clocks; lines = fewer })
     part false e =
-        rw e
-        (record { fair = record { count = a .fair .count; given = a .fair .given; held = omega (arith, a .fair .held, eqb-false (p .player .held) 512 e) }; clocks = omega (arith, a .clocks); lines = omega (arith, a .lines) })
+        let held : p .player .held + 1 ≤ mostBytes = omega (arith, a .fair .held, eqb-false (p .player .held) mostBytes e) in
+        rw e (record { fair = record { count = a .fair .count; given = a .fair .given; held = held }; clocks = clocks; lines = fewer })

@@ -1,20 +1,20 @@
 -- What is lent stays a player's, from byte to byte. Assumes nothing.
 use mathlib.Core.Path.{_≡_, refl, _∙_}
 use mathlib.Core.Bool.{Bool, true, false, cond, _&&_}
-use mathlib.Core.List.{List, [], _∷_, _++_}
+use mathlib.Core.List.{List, [], _∷_}
 use Prim.Native.Nat.{ℕ, zero, suc, _*_, _-_, _<_, _≤_}
 use native.Mathlib.Numerals.{unary-clauses}
 use native.Mathlib.Omega.{arith}
 use lib.Dec.{leb, eqb}
 use lib.ListN.{length, take, length-set, length-replicate}
 use borrow.Author.Tests.{eq-eqb, le-leb, lt-ltb}
+use Rattle.lent.specs.Refusing.{leaves}
 use Rattle.records.specs.Records.{attributeWords, registerWords, portWords, outputWords}
-use Rattle.column.specs.declared.Answer.{Answer}
-use Rattle.column.specs.declared.Answer.the-variants.{Accepted, BadCount, BadLength, Broken}
+use Rattle.column.specs.Refusals.{numberOf}
 use Rattle.column.specs.Column.{nextAt, shownAt, columnNext, columnShown}
-use Rattle.column.specs.Calls.{leaves}
 use Rattle.column.proofs.Stacks.{stacked-length}
 use Rattle.column.proofs.Edges.{next-length, shown-length}
+use Rattle.text.specs.Bytes.{newline, mostBytes}
 use Rattle.text.specs.Numbers.{Numbers, lineOf, isWell, wordsOf}
 use Rattle.text.specs.Printed.{pasted}
 use Rattle.text.proofs.Paste.{pasted-length}
@@ -22,9 +22,11 @@ use Rattle.text.proofs.Lines.{words-length}
 use Rattle.listing.specs.declared.player.Phase.{Phase}
 use Rattle.listing.specs.declared.player.Phase.the-variants.{Head, Settings, Clocks, Stopped}
 use Rattle.listing.specs.declared.player.Player.{Player}
+use Rattle.listing.specs.Letters.{letterP}
+use Rattle.listing.specs.Limits.{mostSlices, countBound, clockRoom}
 use Rattle.listing.specs.Steps.{counted, lastOfGroup}
-use Rattle.listing.specs.Listing.{settingsLine, mostBytes, Play, Turn, Left, placed, clockOf, clockedRegisters, clockedOutputs, lineLeaves, lineTurn, partTurn, working, byteTurn, start}
-use Rattle.listing.specs.Calls.{playOf, lentOf, fitsBy, fits, clockRoom, nothing, further, played}
+use Rattle.listing.specs.Listing.{settingsLine, Play, Turn, Left, placed, clockOf, clockedRegisters, clockedOutputs, lineLeaves, lineTurn, partTurn, working, byteTurn, start}
+use Rattle.listing.specs.Calls.{playOf, lentOf, fitsBy, fits, nothing, further, played}
 use Rattle.listing.specs.Parts.{Fair, Able, Words, Frames}
 use Rattle.listing.proofs.SettingsLine.{settings-length}
 use Rattle.listing.proofs.Groups.{stretch-room}
@@ -40,22 +42,21 @@ pub record Good (p : Play) (n : ℕ) : Type 0 where
 -- ---- a line keeps the lengths
 
 -- a line's numbers take the place of as many
-placed-keeps : (n : ℕ) (q : Player) (x : Numbers) (ws : List ℕ) → length (wordsOf n x) ≡ n → q .given < 24 → length ws ≡ n * 24
-    → length (placed n q x ws) ≡ n * 24
+placed-keeps : (n : ℕ) (q : Player) (x : Numbers) (ws : List ℕ) → length (wordsOf n x) ≡ n → q .given < mostSlices → length ws ≡ n * mostSlices
+    → length (placed n q x ws) ≡ n * mostSlices
 placed-keeps n q x ws long h l = pasted-length (n * q .given) (wordsOf n x) ws (omega (arith, long, stretch-room n (q .given) ws h l)) ∙ l
 
 -- what a clock leaves takes the place of as many
-leaves-keeps : (a : Answer) (new ws : List ℕ) → length new ≤ length ws → length (leaves a (pasted 0 new ws) ws) ≡ length ws
-leaves-keeps Accepted new ws h = pasted-length 0 new ws (omega arith)
-leaves-keeps BadCount new ws h = refl
-leaves-keeps BadLength new ws h = refl
-leaves-keeps (Broken check k) new ws h = refl
+leaves-keeps : (number : ℕ) (new ws : List ℕ) → length new ≤ length ws → length (leaves number (pasted 0 new ws) ws) ≡ length ws
+leaves-keeps zero new ws h = pasted-length 0 new ws (omega arith)
+leaves-keeps (suc n) new ws h = refl
 
-module _ (q : Player) (at rs ps os : List ℕ) (few : q .count ≤ 24) where
-  registers-keep : length rs ≡ registerWords * 24 → length (clockedRegisters q at rs ps os) ≡ registerWords * 24
+module _ (q : Player) (at rs ps os : List ℕ) (few : q .count ≤ mostSlices) where
+  registers-keep : length rs ≡ registerWords * mostSlices → length (clockedRegisters q at rs ps os) ≡ registerWords * mostSlices
   unfolding clockedRegisters columnNext
   registers-keep l =
-      leaves-keeps (clockOf q at rs ps os) (columnNext (q .count) (take (attributeWords * q .count) at) (take (registerWords * q .count) rs) (take (portWords * q .count) ps)) rs
+      leaves-keeps (numberOf (clockOf q at rs ps os))
+      (columnNext (q .count) (take (attributeWords * q .count) at) (take (registerWords * q .count) rs) (take (portWords * q .count) ps)) rs
       (omega (
         arith,
         stacked-length (nextAt (take (attributeWords * q .count) at) (take (registerWords * q .count) rs) (take (portWords * q .count) ps)) registerWords
@@ -64,10 +65,11 @@ module _ (q : Player) (at rs ps os : List ℕ) (few : q .count ≤ 24) where
       ))
       ∙ l
 
-  outputs-keep : length os ≡ outputWords * 24 → length (clockedOutputs q at rs ps os) ≡ outputWords * 24
+  outputs-keep : length os ≡ outputWords * mostSlices → length (clockedOutputs q at rs ps os) ≡ outputWords * mostSlices
   unfolding clockedOutputs columnShown
   outputs-keep l =
-      leaves-keeps (clockOf q at rs ps os) (columnShown (q .count) (take (attributeWords * q .count) at) (take (registerWords * q .count) rs) (take (portWords * q .count) ps)) os
+      leaves-keeps (numberOf (clockOf q at rs ps os))
+      (columnShown (q .count) (take (attributeWords * q .count) at) (take (registerWords * q .count) rs) (take (portWords * q .count) ps)) os
       (omega (
         arith,
         stacked-length (shownAt (take (attributeWords * q .count) at) (take (registerWords * q .count) rs) (take (portWords * q .count) ps)) outputWords
@@ -93,16 +95,16 @@ line-keeps Settings q line at rs ps os h w =
       outputs = w .outputs;
     }
 line-keeps Clocks q line at rs ps os h w =
-    let x = lineOf 80 portWords line in
+    let x = lineOf letterP portWords line in
     let ps′ = placed portWords q x ps in
     record {
       attributes = w .attributes;
       registers =
-          choose-length (isWell x && lastOfGroup q) (clockedRegisters q at rs ps′ os) rs (registerWords * 24)
+          choose-length (isWell x && lastOfGroup q) (clockedRegisters q at rs ps′ os) rs (registerWords * mostSlices)
           (registers-keep q at rs ps′ os (h .count) (w .registers)) (w .registers);
-      ports = placed-keeps portWords q x ps (words-length 80 portWords line) (h .given) (w .ports);
+      ports = placed-keeps portWords q x ps (words-length letterP portWords line) (h .given) (w .ports);
       outputs =
-          choose-length (isWell x && lastOfGroup q) (clockedOutputs q at rs ps′ os) os (outputWords * 24)
+          choose-length (isWell x && lastOfGroup q) (clockedOutputs q at rs ps′ os) os (outputWords * mostSlices)
           (outputs-keep q at rs ps′ os (h .count) (w .outputs)) (w .outputs);
     }
 line-keeps Stopped q line at rs ps os h w = w
@@ -122,7 +124,7 @@ byte-keeps p b n g =
     let q = counted (p .player) in
     let fair : Fair q = record { count = g .able .fair .count; given = g .able .fair .given; held = omega arith } in
     either (working (p .player .phase)) _ _
-    (either (eqb b 10) (lineTurn p) (partTurn p b)
+    (either (eqb b newline) (lineTurn p) (partTurn p b)
     (record {
       words = line-keeps (p .player .phase) q (take (p .player .held) (p .line)) (p .attributes) (p .registers) (p .ports) (p .outputs) fair (g .frames .words);
       line = g .frames .line;
@@ -131,7 +133,7 @@ byte-keeps p b n g =
     (record { words = g .frames .words; line = rw length-set (g .frames .line) })))
     (g .frames)
 
-pub byte-lasts : (p : Play) (b n : ℕ) → Good p (suc n) → Good (byteTurn p b .play) n
+byte-lasts : (p : Play) (b n : ℕ) → Good p (suc n) → Good (byteTurn p b .play) n
 byte-lasts p b n g = record { able = byte-goes p b n (g .able); frames = byte-keeps p b n g }
 
 pub piece-lasts : (room : ℕ) (p : Play) (piece : List ℕ) (n : ℕ) → length piece ≤ n → Good p n → Good (played room p piece .play) (n - played room p piece .used)
@@ -163,14 +165,14 @@ good-fits p n g =
       eq-eqb (length (p .ports)) _ (w .ports),
       eq-eqb (length (p .outputs)) _ (w .outputs),
       eq-eqb (length (p .line)) _ (g .frames .line),
-      le-leb (q .count) 24 (g .able .fair .count),
-      lt-ltb (q .given) 24 (g .able .fair .given),
-      le-leb (q .held) 512 (g .able .fair .held),
-      lt-ltb n (18446744073709551615 - q .clocks) (omega (arith, g .able .clocks)),
-      lt-ltb n (18446744073709551615 - q .lines) (omega (arith, g .able .lines)),
+      le-leb (q .count) mostSlices (g .able .fair .count),
+      lt-ltb (q .given) mostSlices (g .able .fair .given),
+      le-leb (q .held) mostBytes (g .able .fair .held),
+      lt-ltb n (countBound - q .clocks) (omega (arith, g .able .clocks)),
+      lt-ltb n (countBound - q .lines) (omega (arith, g .able .lines)),
     )
 
-pub start-good : (n : ℕ) → n < 18446744073709551615 → Good start n
+pub start-good : (n : ℕ) → n < countBound → Good start n
 start-good n h =
     record {
       able = record { fair = record { count = omega arith; given = omega arith; held = omega arith }; clocks = omega arith; lines = omega arith };

@@ -9,8 +9,9 @@ use lib.ListN.{length, take, drop, getD, length-append, length-take, take-append
 use lib.Seq.{drop-cons, drop-length, drop-drop, take-at, drop-append-add, length-take-le}
 use borrow.Author.Tests.{le-leb, lt-leb}
 use Rattle.text.specs.Printed.{pasted, Put}
+use Rattle.listing.specs.Limits.{clockRoom}
 use Rattle.listing.specs.Listing.{Play, Turn, byteTurn}
-use Rattle.listing.specs.Calls.{Outcome, nothing, further, clockRoom, played}
+use Rattle.listing.specs.Calls.{Outcome, nothing, further, played}
 
 -- an outcome that follows on used bytes, of which says was printed
 abbrev pub following : (used : ℕ) → (says : List ℕ) → Outcome → Outcome
@@ -24,10 +25,10 @@ module _ (at : ℕ) (bs out : List ℕ) (room : at + length bs ≤ length out) w
   long : length (take at out ++ bs) ≡ at + length bs
   long = simp (length-append, length-take) (omega arith)
 
-  pub take-pasted : take (at + length bs) (pasted at bs out) ≡ take at out ++ bs
+  take-pasted : take (at + length bs) (pasted at bs out) ≡ take at out ++ bs
   take-pasted = rw front (take-at (take at out ++ bs) (drop (at + length bs) out) (at + length bs) long)
 
-  pub drop-pasted : drop (at + length bs) (pasted at bs out) ≡ drop (at + length bs) out
+  drop-pasted : drop (at + length bs) (pasted at bs out) ≡ drop (at + length bs) out
   drop-pasted =
       rw front
       (ap (λ (k : ℕ). drop k ((take at out ++ bs) ++ drop (at + length bs) out)) (sym (add-zero (at + length bs)) ∙ ap (λ (k : ℕ). k + 0) (sym long))
@@ -75,7 +76,10 @@ module _ (p₀ : Play) (piece out₀ : List ℕ) (p : Play) (used made : ℕ) (o
         room = omega (arith, kept, e);
         long = kept ∙ s .long;
         rest = ap₂ drop e (put .bytes) ∙ drop-pasted made (t .says) out fits ∙ later ∙ ap (λ (k : ℕ). drop k out₀) (sym e);
-        whole = more (take made out) (t .says) (take made′ out′) bytes (played (length out₀ - made′) (t .play) (drop (used + 1) piece)) t refl ∙ ap (following used (take made out)) (sym next) ∙ s .whole;
+        whole =
+            more (take made out) (t .says) (take made′ out′) bytes (played (length out₀ - made′) (t .play) (drop (used + 1) piece)) t refl
+            ∙ ap (following used (take made out)) (sym next)
+            ∙ s .whole;
       }
     where
       more : (xs bs cs : List ℕ) → cs ≡ xs ++ bs → (o : Outcome) (t : Turn) → t .says ≡ bs → following (used + 1) cs o ≡ following used xs (further t o)

@@ -1,6 +1,6 @@
 -- What is printed of an event: a slice's outputs as they are lent, and how long it can be. Assumes nothing.
 use mathlib.Core.Path.{_≡_, refl, sym, ap, _∙_}
-use mathlib.Core.List.{List, [], _∷_, _++_}
+use mathlib.Core.List.{List, [], _∷_}
 use Prim.Native.Nat.{ℕ, zero, suc, _+_, _*_, _-_, _<_, _≤_}
 use native.Mathlib.Nat.{mul-suc, mul-le-mul-left}
 use native.Mathlib.Numerals.{add-one}
@@ -9,11 +9,14 @@ use lib.ListN.{length, take, drop, getD, length-append, length-take, length-drop
 use Rattle.records.specs.Records.{outputWords}
 use Rattle.column.specs.Column.{stretch, stacked}
 use Rattle.column.proofs.Stacks.{part-count}
+use Rattle.text.specs.Bytes.{fieldRoom}
 use Rattle.text.specs.Printed.{printed, lineWithin, Put}
 use Rattle.text.proofs.Decimal.{printed-length, line-fits}
 use Rattle.text.proofs.Paste.{put-more, put-length}
 use Rattle.listing.specs.declared.player.Event.{Event}
 use Rattle.listing.specs.declared.player.Event.the-variants.{Nothing, Clocked, Refused, Ended}
+use Rattle.listing.specs.Letters.{letterO, letterR, letterE}
+use Rattle.listing.specs.Limits.{mostSlices, outputRoom, clockRoom}
 use Rattle.listing.specs.Steps.{outputLine, bytesOf}
 
 -- n words of a list, from word i on
@@ -26,32 +29,35 @@ from-tail w ws i zero = refl
 from-tail w ws i (suc n) = ap (λ (l : List ℕ). getD ws i 0 ∷ l) (from-tail w ws (suc i) n)
 
 -- a list is its words one by one
-pub word-by-word : (ws : List ℕ) → from ws 0 (length ws) ≡ ws
+word-by-word : (ws : List ℕ) → from ws 0 (length ws) ≡ ws
 word-by-word [] = refl
 word-by-word (w ∷ ws) = ap (λ (l : List ℕ). w ∷ l) (from-tail w ws 0 (length ws) ∙ word-by-word ws)
 
-pub all-words : (n : ℕ) (ws : List ℕ) → length ws ≡ n → from ws 0 n ≡ ws
+all-words : (n : ℕ) (ws : List ℕ) → length ws ≡ n → from ws 0 n ≡ ws
 all-words n ws h = ap (from ws 0) (sym h) ∙ word-by-word ws
 
 -- no `O` line is longer than its seven numbers allow
-pub output-line-length : (clock : ℕ) (os : List ℕ) (k : ℕ) → length (outputLine clock os k) ≤ 149
+output-line-length : (clock : ℕ) (os : List ℕ) (k : ℕ) → length (outputLine clock os k) ≤ outputRoom
 unfolding outputLine
 output-line-length clock os k =
-    omega (arith, printed-length 79 (clock ∷ k ∷ stretch outputWords k os), length-take outputWords (drop (outputWords * k) os))
+    omega (arith, printed-length letterO (clock ∷ k ∷ stretch outputWords k os), length-take outputWords (drop (outputWords * k) os))
 
-pub stacked-most : (f : ℕ → List ℕ) (m : ℕ) → ((k : ℕ) → length (f k) ≤ m) → (n : ℕ) → length (stacked f n) ≤ m * n
+stacked-most : (f : ℕ → List ℕ) (m : ℕ) → ((k : ℕ) → length (f k) ≤ m) → (n : ℕ) → length (stacked f n) ≤ m * n
 stacked-most f m each zero = omega arith
 stacked-most f m each (suc n) = rw (length-append, mul-suc) (omega (arith, stacked-most f m each n, each n))
 
-pub clock-length : (clock : ℕ) (os : List ℕ) (n : ℕ) → length (stacked (outputLine clock os) n) ≤ 149 * n
-clock-length clock os n = stacked-most (outputLine clock os) 149 (output-line-length clock os) n
+clock-length : (clock : ℕ) (os : List ℕ) (n : ℕ) → length (stacked (outputLine clock os) n) ≤ outputRoom * n
+clock-length clock os n = stacked-most (outputLine clock os) outputRoom (output-line-length clock os) n
 
--- room for the lines of a clock is room for every event
-pub event-length : (e : Event) (count : ℕ) (os : List ℕ) → count ≤ 24 → length (bytesOf e count os) ≤ 4096
+lines-fit : (f : ℕ → List ℕ) → ((k : ℕ) → length (f k) ≤ outputRoom) → (n : ℕ) → n ≤ mostSlices → length (stacked f n) ≤ clockRoom
+lines-fit f each n h = omega (arith, stacked-most f outputRoom each n)
+
+-- room for the lines of a clock, in whatever order, is room for every event
+pub event-length : (e : Event) (count : ℕ) (os : List ℕ) → count ≤ mostSlices → length (bytesOf e count os) ≤ clockRoom
 event-length Nothing count os h = omega arith
-event-length (Clocked clock) count os h = omega (arith, clock-length clock os count)
-event-length (Refused number clocks place) count os h = omega (arith, printed-length 82 (number ∷ clocks ∷ place ∷ []))
-event-length (Ended clocks) count os h = omega (arith, printed-length 69 (clocks ∷ []))
+event-length (Clocked clock) count os h = lines-fit _ (λ k. output-line-length clock os _) count h
+event-length (Refused number clocks place) count os h = omega (arith, printed-length letterR (number ∷ clocks ∷ place ∷ []))
+event-length (Ended clocks) count os h = omega (arith, printed-length letterE (clocks ∷ []))
 
 -- a slice's own stretch, as it is lent
 pub lent-slice : (k count : ℕ) (os : List ℕ) → k < count → outputWords * count ≤ length os
@@ -60,34 +66,34 @@ lent-slice k count os h l = simp (length-take, length-drop) (omega (arith, mul-s
 
 -- the loop that prints a clock's lines
 module _ (clock count at k end : ℕ) (os out₀ out : List ℕ) where
-  module _ (few : count ≤ 24) (room : at + 4096 ≤ length out₀) (turn : k < count) (so-far : Put at (stacked (outputLine clock os) k) out₀ end out) where
-    so-long : at + length (stacked (outputLine clock os) k) + 168 ≤ length out₀
+  module _ (few : count ≤ mostSlices) (room : at + clockRoom ≤ length out₀) (turn : k < count) (so-far : Put at (stacked (outputLine clock os) k) out₀ end out) where
+    so-long : at + length (stacked (outputLine clock os) k) + outputRoom ≤ length out₀
     so-long = omega (arith, clock-length clock os k)
 
-    pub next-room : end + 168 ≤ length out
+    pub next-room : end + outputRoom ≤ length out
     next-room = let same : length out ≡ length out₀ = put-length so-far (omega (arith, so-long)) in omega (arith, so-long, same, so-far .ends)
 
     pub one-line : (r : ℕ) (out′ : List ℕ)
-        → Put end (printed 79 (clock ∷ k ∷ take (outputWords * k + outputWords - outputWords * k) (drop (outputWords * k) os))) out r out′
+        → Put end (printed letterO (clock ∷ k ∷ take (outputWords * k + outputWords - outputWords * k) (drop (outputWords * k) os))) out r out′
         → Put at (stacked (outputLine clock os) (k + 1)) out₀ r out′
     unfolding outputLine
     one-line r out′ p =
         rw (ap (stacked (outputLine clock os)) (add-one k)) (put-more so-far (rw (part-count outputWords k) at p) (omega (arith, so-long)))
 
   -- the bytes that are lent keep their number
-  pub kept-room : k ≤ count → count ≤ 24 → at + 4096 ≤ length out₀ → Put at (stacked (outputLine clock os) k) out₀ end out → length out ≡ length out₀
+  pub kept-room : k ≤ count → count ≤ mostSlices → at + clockRoom ≤ length out₀ → Put at (stacked (outputLine clock os) k) out₀ end out → length out ≡ length out₀
   kept-room h few room p = put-length p (omega (arith, clock-length clock os k))
 
   pub all-slices : k ≡ count → Put at (stacked (outputLine clock os) k) out₀ end out → Put at (stacked (outputLine clock os) count) out₀ end out
   all-slices e p = rw e at p
 
 -- a line that there is room for
-pub line-put : (letter at : ℕ) (ns out : List ℕ) (r : ℕ) (out′ : List ℕ) → 21 * (length ns + 1) + at ≤ length out
+pub line-put : (letter at : ℕ) (ns out : List ℕ) (r : ℕ) (out′ : List ℕ) → fieldRoom * (length ns + 1) + at ≤ length out
     → Put at (lineWithin letter ns at out) out r out′ → Put at (printed letter ns) out r out′
 line-put letter at ns out r out′ h p = rw (line-fits letter ns at out h) at p
 
-pub slice-put : (clock k at : ℕ) (shown out : List ℕ) (r : ℕ) (out′ : List ℕ) → length shown ≡ outputWords → at + 168 ≤ length out
-    → Put at (lineWithin 79 (clock ∷ k ∷ from shown 0 outputWords) at out) out r out′
-    → Put at (printed 79 (clock ∷ k ∷ shown)) out r out′
+pub slice-put : (clock k at : ℕ) (shown out : List ℕ) (r : ℕ) (out′ : List ℕ) → length shown ≡ outputWords → at + outputRoom ≤ length out
+    → Put at (lineWithin letterO (clock ∷ k ∷ from shown 0 outputWords) at out) out r out′
+    → Put at (printed letterO (clock ∷ k ∷ shown)) out r out′
 slice-put clock k at shown out r out′ l h p =
-    rw (all-words outputWords shown l) at (line-put 79 at (clock ∷ k ∷ from shown 0 outputWords) out r out′ (omega arith) p)
+    rw (all-words outputWords shown l) at (line-put letterO at (clock ∷ k ∷ from shown 0 outputWords) out r out′ (omega arith) p)

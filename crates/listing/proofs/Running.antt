@@ -11,9 +11,10 @@ use Rattle.word.proofs.Laws.{both-true}
 use Rattle.text.specs.Printed.{Put}
 use Rattle.listing.specs.declared.player.Player.{Player}
 use Rattle.listing.specs.declared.player.Step.{Step}
+use Rattle.listing.specs.Limits.{mostSlices, clockRoom}
 use Rattle.listing.specs.Steps.{bytesOf}
 use Rattle.listing.specs.Listing.{Play, Turn, leaving, turnOf, byteTurn}
-use Rattle.listing.specs.Calls.{Outcome, clockRoom, played}
+use Rattle.listing.specs.Calls.{Outcome, played}
 use Rattle.listing.specs.Parts.{Able, Frames, playing, Ran}
 use Rattle.listing.proofs.Printing.{event-length}
 use Rattle.listing.proofs.Keeps.{byte-goes}
@@ -54,7 +55,7 @@ module _ (p₀ : Play) (piece out₀ : List ℕ) (q : Player) (at rs ps os line 
     (s : SoFar p₀ piece out₀ (playing q at rs ps os line) used made out) where
   pub next-so-far : (r : Step) (at′ rs′ ps′ os′ line′ : List ℕ)
       → turnOf (leaving r at′ rs′ ps′ os′) line′ ≡ byteTurn (playing q at rs ps os line) (getD piece used 0)
-      → r .player .count ≤ 24 → used < length piece → clockRoom ≤ length out - made → (made′ : ℕ) (out′ : List ℕ)
+      → r .player .count ≤ mostSlices → used < length piece → clockRoom ≤ length out - made → (made′ : ℕ) (out′ : List ℕ)
       → Put made (bytesOf (r .event) (r .player .count) os′) out made′ out′ → length out′ ≡ length out
       → SoFar p₀ piece out₀ (playing (r .player) at′ rs′ ps′ os′ line′) (used + 1) made′ out′
   next-so-far r at′ rs′ ps′ os′ line′ turned few h room made′ out′ put kept =

@@ -2,13 +2,14 @@
 use mathlib.Core.Path.{_≡_, refl, sym, ap, ap₂, _∙_}
 use mathlib.Core.Bool.{Bool, true, false}
 use mathlib.Core.List.{List, _++_}
-use Prim.Native.Nat.{ℕ}
+use Prim.Native.Nat.{ℕ, _-_}
 use native.Mathlib.Omega.{arith}
 use lib.ListN.{length, take, drop, replicate, length-append}
 use Rattle.records.specs.Records.{attributeWords}
 use Rattle.text.specs.Numbers.{Numbers, values, malformed, lineOf, isWell, wordsOf}
 use Rattle.text.specs.Calls.{Taken}
 use Rattle.text.proofs.Lines.{words-length}
+use Rattle.listing.specs.Letters.{letterA}
 use Rattle.listing.specs.Listing.{firstAttributes, withZeros, orElse, settingsLine}
 use Rattle.listing.specs.Parts.{SettingsRead}
 
@@ -36,50 +37,54 @@ zeros-well : (k : ℕ) (x : Numbers) → isWell (withZeros k x) ≡ isWell x
 zeros-well k (values ws) = refl
 zeros-well k malformed = refl
 
-zeros-words : (x : Numbers) → wordsOf attributeWords (withZeros 1 x) ≡ wordsOf firstAttributes x ++ replicate 1 0
+-- the attributes that the first reading has and the second lacks
+abbrev rest : ℕ
+rest = attributeWords - firstAttributes
+
+zeros-words : (x : Numbers) → wordsOf attributeWords (withZeros rest x) ≡ wordsOf firstAttributes x ++ replicate rest 0
 zeros-words (values ws) = refl
 zeros-words malformed = refl
 
 pub settings-length : (line : List ℕ) → length (wordsOf attributeWords (settingsLine line)) ≡ attributeWords
 unfolding settingsLine
 settings-length line =
-    or-length attributeWords (lineOf 65 attributeWords line) (withZeros 1 x) (words-length 65 attributeWords line)
+    or-length attributeWords (lineOf letterA attributeWords line) (withZeros rest x) (words-length letterA attributeWords line)
     (ap length (zeros-words x)
-    ∙ length-append (wordsOf firstAttributes x) (replicate 1 0)
-    ∙ omega (arith, words-length 65 firstAttributes line))
+    ∙ length-append (wordsOf firstAttributes x) (replicate rest 0)
+    ∙ omega (arith, words-length letterA firstAttributes line))
   where
     x : Numbers
-    x = lineOf 65 firstAttributes line
+    x = lineOf letterA firstAttributes line
 
 -- ---- the two readings of the code
 
 module _ (line into : List ℕ) (whole : length into ≡ attributeWords) where
   -- the first, of as many numbers as there are attributes
-  first-well : {r : Bool} {into′ : List ℕ} → Taken 65 line into r into′ → isWell (lineOf 65 attributeWords line) ≡ r
-  first-well t = sym (t .well ∙ ap (λ (m : ℕ). isWell (lineOf 65 m line)) whole)
+  first-well : {r : Bool} {into′ : List ℕ} → Taken letterA line into r into′ → isWell (lineOf letterA attributeWords line) ≡ r
+  first-well t = sym (t .well ∙ ap (λ (m : ℕ). isWell (lineOf letterA m line)) whole)
 
-  first-words : {r : Bool} {into′ : List ℕ} → Taken 65 line into r into′ → into′ ≡ wordsOf attributeWords (lineOf 65 attributeWords line)
-  first-words t = t .words ∙ ap (λ (m : ℕ). wordsOf m (lineOf 65 m line)) whole
+  first-words : {r : Bool} {into′ : List ℕ} → Taken letterA line into r into′ → into′ ≡ wordsOf attributeWords (lineOf letterA attributeWords line)
+  first-words t = t .words ∙ ap (λ (m : ℕ). wordsOf m (lineOf letterA m line)) whole
 
-  pub all-read : {r : Bool} {into′ : List ℕ} → Taken 65 line into r into′ → r ≡ true → SettingsRead line true into′
+  pub all-read : {r : Bool} {into′ : List ℕ} → Taken letterA line into r into′ → r ≡ true → SettingsRead line true into′
   unfolding settingsLine
   all-read t e =
-      let taken = sym (or-first (lineOf 65 attributeWords line) (withZeros 1 (lineOf 65 firstAttributes line)) (first-well t ∙ e)) in
+      let taken = sym (or-first (lineOf letterA attributeWords line) (withZeros rest (lineOf letterA firstAttributes line)) (first-well t ∙ e)) in
       record { well = sym (first-well t ∙ e) ∙ ap isWell taken; words = first-words t ∙ ap (wordsOf attributeWords) taken }
 
   -- the second, over the zeros that the first left
-  pub some-read : {r s : Bool} {into′ got : List ℕ} → Taken 65 line into r into′ → r ≡ false → Taken 65 line (take firstAttributes into′) s got
+  pub some-read : {r s : Bool} {into′ got : List ℕ} → Taken letterA line into r into′ → r ≡ false → Taken letterA line (take firstAttributes into′) s got
       → SettingsRead line s (got ++ drop firstAttributes into′)
   unfolding settingsLine
   some-read {into′ = into′} t e u =
-      let x = lineOf 65 firstAttributes line in
-      let zeros : into′ ≡ replicate attributeWords 0 = first-words t ∙ malformed-words attributeWords (lineOf 65 attributeWords line) (first-well t ∙ e) in
+      let x = lineOf letterA firstAttributes line in
+      let zeros : into′ ≡ replicate attributeWords 0 = first-words t ∙ malformed-words attributeWords (lineOf letterA attributeWords line) (first-well t ∙ e) in
       let part : length (take firstAttributes into′) ≡ firstAttributes = ap (λ (ws : List ℕ). length (take firstAttributes ws)) zeros in
-      let taken = sym (or-second (lineOf 65 attributeWords line) (withZeros 1 x) (first-well t ∙ e)) in
+      let taken = sym (or-second (lineOf letterA attributeWords line) (withZeros rest x) (first-well t ∙ e)) in
       record {
-        well = u .well ∙ ap (λ (m : ℕ). isWell (lineOf 65 m line)) part ∙ sym (zeros-well 1 x) ∙ ap isWell taken;
+        well = u .well ∙ ap (λ (m : ℕ). isWell (lineOf letterA m line)) part ∙ sym (zeros-well rest x) ∙ ap isWell taken;
         words =
-            ap₂ (λ (a b : List ℕ). a ++ b) (u .words ∙ ap (λ (m : ℕ). wordsOf m (lineOf 65 m line)) part) (ap (drop firstAttributes) zeros)
+            ap₂ (λ (a b : List ℕ). a ++ b) (u .words ∙ ap (λ (m : ℕ). wordsOf m (lineOf letterA m line)) part) (ap (drop firstAttributes) zeros)
             ∙ sym (zeros-words x)
             ∙ ap (wordsOf attributeWords) taken;
       }

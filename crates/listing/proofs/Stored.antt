@@ -7,10 +7,10 @@ use lib.ListN.{length, set}
 use Rattle.listing.specs.declared.player.Phase.{Phase}
 use Rattle.listing.specs.declared.player.Phase.the-variants.{Head, Settings, Clocks, Stopped}
 use Rattle.listing.specs.declared.player.Player.{Player}
-use Rattle.listing.specs.Calls.{phaseNumber, phaseOf, playerOf, playerWords}
+use Rattle.listing.specs.Calls.{phaseNumber, phaseOf, playerNumbers, playerOf, playerWords}
 
 -- six words, each set
-pub all-six : (ws : List ℕ) → length ws ≡ 6 → (a b c d e f : ℕ)
+pub all-six : (ws : List ℕ) → length ws ≡ playerNumbers → (a b c d e f : ℕ)
     → set (set (set (set (set (set ws 0 a) 1 b) 2 c) 3 d) 4 e) 5 f ≡ a ∷ b ∷ c ∷ d ∷ e ∷ f ∷ []
 all-six (u ∷ v ∷ w ∷ x ∷ y ∷ z ∷ []) h a b c d e f = refl
 all-six [] h a b c d e f = let z : ⊥ = omega arith in absurd z

@@ -11,8 +11,9 @@ use lib.Seq.{take-at}
 use borrow.Author.Tests.{le-leb, lt-ltb}
 use Rattle.text.specs.Printed.{Put}
 use Rattle.listing.specs.declared.Played.{Played}
+use Rattle.listing.specs.Limits.{countBound, clockRoom}
 use Rattle.listing.specs.Listing.{Play, byteTurn, start, endSays, listingFrom, listing}
-use Rattle.listing.specs.Calls.{Lent, lentOf, nothing, further, clockRoom, played, lentAfter, outcomeOf, PiecePlayed, endBytes, Finished}
+use Rattle.listing.specs.Calls.{Lent, lentOf, nothing, further, played, lentAfter, outcomeOf, PiecePlayed, endBytes, Finished}
 use Rattle.listing.specs.Parts.{Able}
 use Rattle.listing.proofs.Stored.{player-back}
 use Rattle.listing.proofs.Lasting.{Good, piece-lasts, lent-back, good-fits, start-good}
@@ -66,7 +67,7 @@ module _ (p : Play) (n : ℕ) (g : Good p n) where
   finished : {out : List ℕ} {r : ℕ} {out′ : List ℕ} → clockRoom ≤ length out → Finished (lentOf p .numbers) out r out′ → take r out′ ≡ endSays (p .player)
   unfolding endBytes lentOf
   finished {out} {r} {out′} room d =
-      rw (le-leb clockRoom (length out) room, player-back (p .player), lt-ltb 0 (18446744073709551615 - p .player .lines) (omega (arith, g .able .lines)))
+      rw (le-leb clockRoom (length out) room, player-back (p .player), lt-ltb 0 (countBound - p .player .lines) (omega (arith, g .able .lines)))
       at (front-of _ out r out′ (d .says))
 
 -- the calls of a bench print the listing of its text
@@ -87,6 +88,6 @@ bench-plays (call {l} piece more {out} {r} {l′} {out′} {bytes} d next) p n g
     ∙ sym (cut (length out) p piece more)
 
 -- from the lent zeros on, whatever the pieces and the room
-pub pieces-play-the-listing : {text bytes : List ℕ} → length text < 18446744073709551615 → Bench (lentOf start) text bytes → bytes ≡ listing text
+pub pieces-play-the-listing : {text bytes : List ℕ} → length text < countBound → Bench (lentOf start) text bytes → bytes ≡ listing text
 unfolding listing
 pieces-play-the-listing {text} h s = bench-plays s start (length text) (start-good (length text) h) (omega arith) refl

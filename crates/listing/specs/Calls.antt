@@ -6,12 +6,14 @@ use mathlib.Core.List.{List, [], _∷_, _++_}
 use lib.Dec.{eqb, leb, ltb}
 use lib.ListN.{length, getD}
 use Rattle.records.specs.Records.{attributeWords, registerWords, portWords, outputWords}
+use Rattle.text.specs.Bytes.{mostBytes}
 use Rattle.text.specs.Printed.{Put}
 use Rattle.listing.specs.declared.player.Phase.{Phase}
 use Rattle.listing.specs.declared.player.Phase.the-variants.{Head, Settings, Clocks, Stopped}
 use Rattle.listing.specs.declared.player.Player.{Player}
 use Rattle.listing.specs.declared.Played.{Played}
-use Rattle.listing.specs.Listing.{mostSlices, mostBytes, Play, Turn, byteTurn, working, endSays}
+use Rattle.listing.specs.Limits.{mostSlices, countBound, clockRoom}
+use Rattle.listing.specs.Listing.{Play, Turn, byteTurn, working, endSays}
 
 -- ---- the player's numbers as lent words
 
@@ -80,8 +82,8 @@ numbersFit n q =
     leb (q .count) mostSlices
     && ltb (q .given) mostSlices
     && leb (q .held) mostBytes
-    && ltb n (18446744073709551615 - q .clocks)
-    && ltb n (18446744073709551615 - q .lines)
+    && ltb n (countBound - q .clocks)
+    && ltb n (countBound - q .lines)
 
 -- the words of 24 slices, and the bytes of a line
 abbrev pub lengthsFit : (attributes registers ports outputs line : ℕ) → Bool
@@ -111,10 +113,6 @@ nothing p = record { used = 0; play = p; says = [] }
 
 abbrev pub further : Turn → Outcome → Outcome
 further t o = record { used = suc (o .used); play = o .play; says = t .says ++ o .says }
-
--- room that is enough for what any byte prints
-abbrev pub clockRoom : ℕ
-clockRoom = 4096
 
 -- byte after byte, while there is room
 abbrev pub played : (room : ℕ) → Play → (piece : List ℕ) → Outcome
@@ -149,7 +147,7 @@ pub record PiecePlayed (piece : List ℕ) (l : Lent) (out : List ℕ) (r : Playe
 -- the bytes at the end of the input, where the lent numbers are a player's and there is room for them
 unfoldable pub endBytes : (numbers out : List ℕ) → List ℕ
 endBytes ns out =
-    cond (eqb (length ns) playerNumbers && leb clockRoom (length out) && ltb 0 (18446744073709551615 - playerOf ns .lines)) (endSays (playerOf ns)) []
+    cond (eqb (length ns) playerNumbers && leb clockRoom (length out) && ltb 0 (countBound - playerOf ns .lines)) (endSays (playerOf ns)) []
 
 pub record Finished (numbers out : List ℕ) (r : ℕ) (out′ : List ℕ) : Type 0 where
   pub says : Put 0 (endBytes numbers out) out r out′
@@ -168,5 +166,6 @@ one-piece a b = (
   a .says .bytes ∙ sym (b .says .bytes),
 )
 
-pub one-end : {numbers out : List ℕ} {r₁ r₂ : ℕ} {out₁ out₂ : List ℕ} → Finished numbers out r₁ out₁ → Finished numbers out r₂ out₂ → (r₁ ≡ r₂) × (out₁ ≡ out₂)
+pub one-end : {numbers out : List ℕ} {r₁ r₂ : ℕ} {out₁ out₂ : List ℕ} → Finished numbers out r₁ out₁ → Finished numbers out r₂ out₂
+    → (r₁ ≡ r₂) × (out₁ ≡ out₂)
 one-end a b = (a .says .ends ∙ sym (b .says .ends), a .says .bytes ∙ sym (b .says .bytes))

@@ -1,3 +1,5 @@
+pub mod Letters
+pub mod Limits
 pub mod Steps
 pub mod Listing
 pub mod Calls

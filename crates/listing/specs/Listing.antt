@@ -1,28 +1,24 @@
 -- A whole listing (01, "Port listings"): from all the bytes of the input to all the bytes of the output. Assumes nothing.
-use Prim.Native.Nat.{ℕ, _+_, _*_}
+use Prim.Native.Nat.{ℕ, _+_, _*_, _-_}
 use mathlib.Core.Bool.{Bool, true, false, cond, _&&_}
 use mathlib.Core.List.{List, [], _∷_, _++_}
 use lib.Dec.{eqb}
 use lib.ListN.{take, set, replicate}
+use Rattle.lent.specs.Refusing.{leaves}
 use Rattle.records.specs.Records.{attributeWords, registerWords, portWords, outputWords}
 use Rattle.column.specs.declared.Answer.{Answer}
 use Rattle.column.specs.Column.{columnNext, columnShown}
-use Rattle.column.specs.Refusals.{attributesAnswer, clockAnswer}
-use Rattle.column.specs.Calls.{leaves}
+use Rattle.column.specs.Refusals.{numberOf, attributesAnswer, clockAnswer}
+use Rattle.text.specs.Bytes.{newline, mostBytes}
 use Rattle.text.specs.Numbers.{Numbers, values, malformed, lineOf, isWell, wordsOf}
 use Rattle.text.specs.Printed.{pasted}
 use Rattle.listing.specs.declared.player.Phase.{Phase}
 use Rattle.listing.specs.declared.player.Phase.the-variants.{Head, Settings, Clocks, Stopped}
 use Rattle.listing.specs.declared.player.Player.{Player}
 use Rattle.listing.specs.declared.player.Step.{Step}
+use Rattle.listing.specs.Letters.{letterN, letterA, letterP}
+use Rattle.listing.specs.Limits.{mostSlices}
 use Rattle.listing.specs.Steps.{counted, longer, lastOfGroup, goesOn, refusal, headStep, groupStep, settingsStep, clockStep, endOf, bytesOf}
-
--- slices in a column, at most; bytes in a line, at most
-abbrev pub mostSlices : ℕ
-mostSlices = 24
-
-abbrev pub mostBytes : ℕ
-mostBytes = 512
 
 -- what is known between two bytes of the input: the player's numbers, the words of a column, those of slice 0 first, the outputs last
 -- shown, and the bytes of the line so far, of which there are player .held
@@ -72,13 +68,13 @@ clockOf q at rs ps os =
 
 unfoldable pub clockedRegisters : Player → (at rs ps os : List ℕ) → List ℕ
 clockedRegisters q at rs ps os =
-    leaves (clockOf q at rs ps os)
+    leaves (numberOf (clockOf q at rs ps os))
     (pasted 0 (columnNext (q .count) (take (attributeWords * q .count) at) (take (registerWords * q .count) rs) (take (portWords * q .count) ps)) rs)
     rs
 
 unfoldable pub clockedOutputs : Player → (at rs ps os : List ℕ) → List ℕ
 clockedOutputs q at rs ps os =
-    leaves (clockOf q at rs ps os)
+    leaves (numberOf (clockOf q at rs ps os))
     (pasted 0 (columnShown (q .count) (take (attributeWords * q .count) at) (take (registerWords * q .count) rs) (take (portWords * q .count) ps)) os)
     os
 
@@ -86,12 +82,13 @@ clockedOutputs q at rs ps os =
 abbrev pub headLeaves : Player → Numbers → (at rs ps os : List ℕ) → Left
 headLeaves q x at rs ps os = leaving (headStep q x) at rs ps os
 
--- ---- `A` lines: "one `A` line of 21 numbers a slice" (01), or of 22 (02, "Split adder")
+-- ---- `A` lines
 
--- the attributes that 01 has; a line of them alone says 0 for the rest
+-- "one `A` line of 21 numbers a slice" (01)
 abbrev pub firstAttributes : ℕ
 firstAttributes = 21
 
+-- numbers, and k zeros after them
 abbrev pub withZeros : (k : ℕ) → Numbers → Numbers
 withZeros k (values ws) = values (ws ++ replicate k 0)
 withZeros k malformed = malformed
@@ -101,8 +98,10 @@ abbrev pub orElse : Numbers → Numbers → Numbers
 orElse (values ws) y = values ws
 orElse malformed y = y
 
+-- a line of all attributes; "`A` lines of 21 numbers keep their meaning, with word 22 as 0" (02, Ask 1)
 unfoldable pub settingsLine : (line : List ℕ) → Numbers
-settingsLine line = orElse (lineOf 65 attributeWords line) (withZeros 1 (lineOf 65 firstAttributes line))
+settingsLine line =
+    orElse (lineOf letterA attributeWords line) (withZeros (attributeWords - firstAttributes) (lineOf letterA firstAttributes line))
 
 -- at has the line's numbers already
 abbrev pub settingsLeaves : Player → Numbers → (at rs ps os : List ℕ) → Left
@@ -120,11 +119,11 @@ portsLeave q x at rs ps os =
 
 -- a whole line, by the kind of line that is due
 abbrev pub lineLeaves : Phase → Player → (line at rs ps os : List ℕ) → Left
-lineLeaves Head q line at rs ps os = headLeaves q (lineOf 78 1 line) at rs ps os
+lineLeaves Head q line at rs ps os = headLeaves q (lineOf letterN 1 line) at rs ps os
 lineLeaves Settings q line at rs ps os =
     settingsLeaves q (settingsLine line) (placed attributeWords q (settingsLine line) at) rs ps os
 lineLeaves Clocks q line at rs ps os =
-    portsLeave q (lineOf 80 portWords line) at rs (placed portWords q (lineOf 80 portWords line) ps) os
+    portsLeave q (lineOf letterP portWords line) at rs (placed portWords q (lineOf letterP portWords line) ps) os
 lineLeaves Stopped q line at rs ps os = leaving (goesOn q) at rs ps os
 
 -- what a byte does: what is known then, and what is printed
@@ -172,7 +171,7 @@ lineTurn p =
 -- after a refusal a byte does nothing
 unfoldable pub byteTurn : Play → (b : ℕ) → Turn
 byteTurn p b =
-    cond (working (p .player .phase)) (cond (eqb b 10) (lineTurn p) (partTurn p b)) (turnOf (stepping (goesOn (p .player)) p) (p .line))
+    cond (working (p .player .phase)) (cond (eqb b newline) (lineTurn p) (partTurn p b)) (turnOf (stepping (goesOn (p .player)) p) (p .line))
 
 -- the end of the input
 unfoldable pub endSays : Player → List ℕ

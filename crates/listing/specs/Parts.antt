@@ -5,43 +5,46 @@ use mathlib.Core.Bool.{Bool, cond, _&&_}
 use mathlib.Core.List.{List}
 use lib.ListN.{length}
 use Rattle.records.specs.Records.{attributeWords, registerWords, portWords, outputWords}
+use Rattle.text.specs.Bytes.{mostBytes}
 use Rattle.text.specs.Numbers.{lineOf, isWell, wordsOf}
 use Rattle.text.specs.Printed.{Put}
 use Rattle.listing.specs.declared.player.Player.{Player}
 use Rattle.listing.specs.declared.player.Step.{Step}
 use Rattle.listing.specs.declared.machine.Run.{Run}
+use Rattle.listing.specs.Letters.{letterP}
+use Rattle.listing.specs.Limits.{mostSlices, countBound}
 use Rattle.listing.specs.Steps.{lastOfGroup, groupStep, settingsStep, clockStep}
 use Rattle.listing.specs.Listing.{Play, placed, settingsLine, settingsOf, clockOf, clockedRegisters, clockedOutputs}
 use Rattle.listing.specs.Calls.{played}
 
 -- a player's numbers are in range
 pub record Fair (q : Player) : Type 0 where
-  pub count : q .count ≤ 24
-  pub given : q .given < 24
-  pub held : q .held ≤ 512
+  pub count : q .count ≤ mostSlices
+  pub given : q .given < mostSlices
+  pub held : q .held ≤ mostBytes
 
 -- and its counts have room for n lines and n clocks more
 pub record Able (q : Player) (n : ℕ) : Type 0 where
   pub fair : Fair q
-  pub clocks : q .clocks + n < 18446744073709551615
-  pub lines : q .lines + n < 18446744073709551615
+  pub clocks : q .clocks + n < countBound
+  pub lines : q .lines + n < countBound
 
 -- it can run a clock
 pub record Clockable (q : Player) : Type 0 where
   pub fair : Fair q
-  pub clocks : q .clocks < 18446744073709551615
+  pub clocks : q .clocks < countBound
 
 -- the words of 24 slices
 pub record Words (at rs ps os : List ℕ) : Type 0 where
-  pub attributes : length at ≡ attributeWords * 24
-  pub registers : length rs ≡ registerWords * 24
-  pub ports : length ps ≡ portWords * 24
-  pub outputs : length os ≡ outputWords * 24
+  pub attributes : length at ≡ attributeWords * mostSlices
+  pub registers : length rs ≡ registerWords * mostSlices
+  pub ports : length ps ≡ portWords * mostSlices
+  pub outputs : length os ≡ outputWords * mostSlices
 
 -- and the bytes of a line
 pub record Frames (at rs ps os bytes : List ℕ) : Type 0 where
   pub words : Words at rs ps os
-  pub line : length bytes ≡ 512
+  pub line : length bytes ≡ mostBytes
 
 -- ---- what the lines leave
 
@@ -60,10 +63,10 @@ pub record ClockTaken (q : Player) (at rs ps os : List ℕ) (r : Step) (rs′ os
   pub outputs : os′ ≡ clockedOutputs q at rs ps os
 
 pub record PortsTaken (q : Player) (line at rs ps os : List ℕ) (r : Step) (rs′ ps′ os′ : List ℕ) : Type 0 where
-  pub ports : ps′ ≡ placed portWords q (lineOf 80 portWords line) ps
-  pub step : r ≡ groupStep q (isWell (lineOf 80 portWords line)) (clockStep q (clockOf q at rs ps′ os))
-  pub registers : rs′ ≡ cond (isWell (lineOf 80 portWords line) && lastOfGroup q) (clockedRegisters q at rs ps′ os) rs
-  pub outputs : os′ ≡ cond (isWell (lineOf 80 portWords line) && lastOfGroup q) (clockedOutputs q at rs ps′ os) os
+  pub ports : ps′ ≡ placed portWords q (lineOf letterP portWords line) ps
+  pub step : r ≡ groupStep q (isWell (lineOf letterP portWords line)) (clockStep q (clockOf q at rs ps′ os))
+  pub registers : rs′ ≡ cond (isWell (lineOf letterP portWords line) && lastOfGroup q) (clockedRegisters q at rs ps′ os) rs
+  pub outputs : os′ ≡ cond (isWell (lineOf letterP portWords line) && lastOfGroup q) (clockedOutputs q at rs ps′ os) os
 
 -- ---- what a byte and a piece leave
 

@@ -17,6 +17,7 @@ use Rattle.listing.specs.declared.player.Player.{Player}
 use Rattle.listing.specs.declared.player.Event.{Event}
 use Rattle.listing.specs.declared.player.Event.the-variants.{Nothing, Clocked, Refused, Ended}
 use Rattle.listing.specs.declared.player.Step.{Step}
+use Rattle.listing.specs.Letters.{letterO, letterR, letterE}
 
 -- ---- the player's numbers
 
@@ -102,11 +103,11 @@ endOf q = endIn (q .phase) q
 -- ---- what is printed: "`O`, clock, slice, the five outputs", "within a clock from slice 0 up"
 
 unfoldable pub outputLine : (clock : ℕ) → (outputs : List ℕ) → (k : ℕ) → List ℕ
-outputLine clock os k = printed 79 (clock ∷ k ∷ stretch outputWords k os)
+outputLine clock os k = printed letterO (clock ∷ k ∷ stretch outputWords k os)
 
 -- of an event of a column of count slices, which shows these outputs
 abbrev pub bytesOf : Event → (count : ℕ) → (outputs : List ℕ) → List ℕ
 bytesOf Nothing count os = []
 bytesOf (Clocked clock) count os = stacked (outputLine clock os) count
-bytesOf (Refused number clocks place) count os = printed 82 (number ∷ clocks ∷ place ∷ [])
-bytesOf (Ended clocks) count os = printed 69 (clocks ∷ [])
+bytesOf (Refused number clocks place) count os = printed letterR (number ∷ clocks ∷ place ∷ [])
+bytesOf (Ended clocks) count os = printed letterE (clocks ∷ [])

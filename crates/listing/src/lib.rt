@@ -1,13 +1,13 @@
 // Plays a port listing that comes in pieces of any size. All that is known between two pieces stands in lent words and bytes, which are
 // zeros to begin with. Both calls take whatever they are lent.
-ghost use mathlib.Core.Path.{_≡_};
 ghost use Rattle.listing.specs.Calls.{lending, PiecePlayed, Finished};
 
-mod lent;
+mod letters;
 mod lines;
 mod machine;
 mod player;
 mod print;
+mod state;
 
 use column::Attributes;
 use column::Outputs;
@@ -21,18 +21,24 @@ pub struct Played {
     pub goes: bool,
 }
 
+// Slices in a column, at most.
+const MOST_SLICES: usize = 24;
+
 // How many words and bytes a player is lent: its numbers, the words of 24 slices, and the bytes of a line.
 pub const NUMBERS: usize = 6;
 
-pub const ATTRIBUTES: usize = Attributes::WORDS * 24;
+pub const ATTRIBUTES: usize = Attributes::WORDS * MOST_SLICES;
 
-pub const REGISTERS: usize = Registers::WORDS * 24;
+pub const REGISTERS: usize = Registers::WORDS * MOST_SLICES;
 
-pub const PORTS: usize = Ports::WORDS * 24;
+pub const PORTS: usize = Ports::WORDS * MOST_SLICES;
 
-pub const OUTPUTS: usize = Outputs::WORDS * 24;
+pub const OUTPUTS: usize = Outputs::WORDS * MOST_SLICES;
 
 pub const LINE: usize = 512;
+
+// Room in `out` for what any byte prints: more than the `O` lines of 24 slices.
+const CLOCK_ROOM: usize = 4096;
 
 // Plays a piece, byte after byte, as long as `out` has room for the lines of a clock, and prints from the front of `out` on. Does nothing
 // where what is lent is no player's.
@@ -49,7 +55,7 @@ pub fn play(
     ensures { λ r.
         ⌜ PiecePlayed (now (piece .entry)) (lending (now (numbers .entry)) (now (attributes .entry)) (now (registers .entry)) (now (ports .entry)) (now (outputs .entry)) (now (line .entry))) (now (out .entry)) r (lending (now (numbers .exit)) (now (attributes .exit)) (now (registers .exit)) (now (ports .exit)) (now (outputs .exit)) (now (line .exit))) (now (out .exit)) ⌝ }
 {
-    if !lent::fits(
+    if !state::fits(
         piece.len(),
         &numbers[..],
         attributes.len(),
@@ -64,7 +70,7 @@ pub fn play(
             goes: false,
         };
     }
-    let begin = lent::player_of(&numbers[..]);
+    let begin = state::player_of(&numbers[..]);
     let run = machine::run_piece(
         begin,
         piece,
@@ -76,7 +82,7 @@ pub fn play(
         out,
     );
     let player = run.player;
-    lent::store(player, numbers);
+    state::store(player, numbers);
     let phase = player.phase;
     Played {
         used: run.used,
@@ -92,11 +98,11 @@ pub fn finish(numbers: &[u64], out: &mut [u8]) -> usize
     if numbers.len() != NUMBERS {
         return 0;
     }
-    if out.len() < 4096 {
+    if out.len() < CLOCK_ROOM {
         return 0;
     }
-    let player = lent::player_of(numbers);
-    if player.lines == 18446744073709551615 {
+    let player = state::player_of(numbers);
+    if player.lines == u64::MAX {
         return 0;
     }
     let no_outputs = [0u64; 0];

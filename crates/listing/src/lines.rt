@@ -1,12 +1,15 @@
 // The lines of a listing, each when it is whole. The player has counted the line already.
 ghost use mathlib.Core.Path.{_≡_};
-ghost use Prim.Native.Nat.{_<_, _≤_, _*_};
+ghost use Prim.Native.Nat.{_*_};
 ghost use lib.ListN.{length};
 ghost use Rattle.records.specs.Records.{attributeWords};
 ghost use Rattle.text.specs.Numbers.{lineOf};
+ghost use Rattle.listing.specs.Letters.{letterN};
+ghost use Rattle.listing.specs.Limits.{mostSlices};
 ghost use Rattle.listing.specs.Steps.{goesOn, answered, headStep};
 ghost use Rattle.listing.specs.Listing.{leaving, lineLeaves};
 ghost use Rattle.listing.specs.Parts.{Fair, Clockable, Words, SettingsRead, SettingsTaken, ClockTaken, PortsTaken};
+use crate::letters;
 use crate::player::Event;
 use crate::player::Phase;
 use crate::player::Player;
@@ -44,14 +47,14 @@ fn answered(q: Player, answer: column::Answer, accepted: Step) -> Step
 
 // The `N` line.
 fn take_head(q: Player, line: &[u8]) -> Step
-    ensures { λ r. ⌜ r ≡ headStep q (lineOf 78 1 (now (line .entry))) ⌝ }
+    ensures { λ r. ⌜ r ≡ headStep q (lineOf letterN 1 (now (line .entry))) ⌝ }
 {
     let mut words = [0u64; 1];
-    if !text::line(line, 78, &mut words) {
+    if !text::line(line, letters::N, &mut words) {
         return q.refused(12, q.lines);
     }
     let count = words[0];
-    if !((1 <= count) & (count <= 24)) {
+    if !((1 <= count) & (count <= crate::MOST_SLICES as u64)) {
         return q.refused(1, 0);
     }
     quiet(q.named(count as usize))
@@ -65,15 +68,15 @@ fn read_settings(line: &[u8], into: &mut [u64]) -> bool
     requires { ⌜ length (now into) ≡ attributeWords ⌝ }
     ensures { λ r. ⌜ SettingsRead (now (line .entry)) r (now (into .exit)) ⌝ }
 {
-    if text::line(line, 65, into) {
+    if text::line(line, letters::A, into) {
         return true;
     }
-    text::line(line, 65, &mut into[..FIRST_ATTRIBUTES])
+    text::line(line, letters::A, &mut into[..FIRST_ATTRIBUTES])
 }
 
 // An `A` line. Number 3 is checked after the last of them.
 fn take_settings(q: Player, line: &[u8], attributes: &mut [u64]) -> Step
-    requires { ⌜ Fair q × (length (now attributes) ≡ attributeWords * 24) ⌝ }
+    requires { ⌜ Fair q × (length (now attributes) ≡ attributeWords * mostSlices) ⌝ }
     ensures { λ r. ⌜ SettingsTaken q (now (line .entry)) (now (attributes .entry)) r (now (attributes .exit)) ⌝ }
 {
     let a = Attributes::WORDS * q.given;
@@ -129,7 +132,7 @@ fn take_ports(
         ⌜ PortsTaken q (now (line .entry)) (now (attributes .entry)) (now (registers .entry)) (now (ports .entry)) (now (outputs .entry)) r (now (registers .exit)) (now (ports .exit)) (now (outputs .exit)) ⌝ }
 {
     let p = Ports::WORDS * q.given;
-    if !text::line(line, 80, &mut ports[p..p + Ports::WORDS]) {
+    if !text::line(line, letters::P, &mut ports[p..p + Ports::WORDS]) {
         return q.refused(12, q.lines);
     }
     if q.given + 1 < q.count {

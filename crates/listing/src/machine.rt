@@ -10,9 +10,9 @@ use crate::player::Step;
 use crate::player::is_working;
 use crate::print::put_event;
 
-const NEWLINE: u8 = 10;
+const NEWLINE: u8 = b'\n';
 
-// One byte. A newline ends its line; a line may have 512 bytes.
+// One byte. A newline ends its line; any other joins it, if the line has room.
 fn take_byte(
     q: Player,
     b: u8,
@@ -44,7 +44,7 @@ fn take_byte(
             outputs,
         );
     }
-    if held == 512 {
+    if held == crate::LINE {
         return q.refused(12, q.lines + 1);
     }
     line[held] = b;
@@ -79,7 +79,7 @@ pub fn run_piece(
     let mut player = begin;
     let mut used = 0;
     let mut made = 0;
-    while (used < piece.len()) & (4096 <= out.len() - made) {
+    while (used < piece.len()) & (crate::CLOCK_ROOM <= out.len() - made) {
         let step = take_byte(
             player,
             piece[used],

@@ -1,7 +1,9 @@
 // A player's numbers: the kind of line that is due, and the counts; what a line or a byte makes of them.
 ghost use mathlib.Core.Path.{_≡_};
 ghost use Prim.Native.Nat.{_<_};
-ghost use Rattle.listing.specs.Steps.{counted, longer, oneMore, named, clocking, clockRun, halted, refusal, endIn, endOf};
+ghost use Rattle.text.specs.Bytes.{mostBytes};
+ghost use Rattle.listing.specs.Limits.{mostSlices, countBound};
+ghost use Rattle.listing.specs.Steps.{counted, longer, oneMore, named, clocking, clockRun, refusal, endIn, endOf};
 ghost use Rattle.listing.specs.Listing.{working};
 
 // The kind of line that is due: `N`, `A` or `P`; none after a refusal.
@@ -49,7 +51,7 @@ pub fn is_working(phase: Phase) -> bool
 impl Player {
     // A line is whole: it counts, and the next one begins.
     pub fn after_line(self) -> Player
-        requires { ⌜ self .lines < 18446744073709551615 ⌝ }
+        requires { ⌜ self .lines < countBound ⌝ }
         ensures { λ r. ⌜ r ≡ counted self ⌝ }
     {
         let phase = self.phase;
@@ -65,7 +67,7 @@ impl Player {
 
     // One byte more of the line.
     pub fn after_byte(self) -> Player
-        requires { ⌜ self .held < 512 ⌝ }
+        requires { ⌜ self .held < mostBytes ⌝ }
         ensures { λ r. ⌜ r ≡ longer self ⌝ }
     {
         let phase = self.phase;
@@ -81,7 +83,7 @@ impl Player {
 
     // The line of one slice more is given.
     pub fn after_slice(self) -> Player
-        requires { ⌜ self .given < 24 ⌝ }
+        requires { ⌜ self .given < mostSlices ⌝ }
         ensures { λ r. ⌜ r ≡ oneMore self ⌝ }
     {
         let phase = self.phase;
@@ -125,7 +127,7 @@ impl Player {
 
     // A clock was run.
     pub fn after_clock(self) -> Player
-        requires { ⌜ self .clocks < 18446744073709551615 ⌝ }
+        requires { ⌜ self .clocks < countBound ⌝ }
         ensures { λ r. ⌜ r ≡ clockRun self ⌝ }
     {
         let phase = self.phase;
@@ -159,7 +161,7 @@ impl Player {
 
 // What there is to print where the input ends while a line of this kind is due.
 fn end_in(phase: Phase, player: Player) -> Event
-    requires { ⌜ player .lines < 18446744073709551615 ⌝ }
+    requires { ⌜ player .lines < countBound ⌝ }
     ensures { λ r. ⌜ r ≡ endIn phase player ⌝ }
 {
     let missing = Event::Refused(12, player.clocks, player.lines + 1);
@@ -179,7 +181,7 @@ fn end_in(phase: Phase, player: Player) -> Event
 
 // What there is to print where the input ends.
 pub fn end_of(player: Player) -> Event
-    requires { ⌜ player .lines < 18446744073709551615 ⌝ }
+    requires { ⌜ player .lines < countBound ⌝ }
     ensures { λ r. ⌜ r ≡ endOf player ⌝ }
 {
     let phase = player.phase;

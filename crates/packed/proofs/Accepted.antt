@@ -9,16 +9,17 @@ use lib.ListN.{length, length-replicate}
 use lib.IntN.{ℤ, pos, _*ℤ_}
 use borrow.Author.Tests.{le-leb, eq-eqb}
 use Rattle.word.proofs.Laws.{word-lt}
-use Rattle.records.specs.Records.{attributeWords, registerWords, portWords, outputWords, registerWidths, portWidths, Fit, none, more, portsWords}
+use Rattle.records.specs.Records.{attributeWords, registerWords, portWords, outputWords, registerWidths, portWidths, exceeds, portsWords}
 use Rattle.slice.specs.Slice.{controlsOf, selectsOf}
-use Rattle.slice.specs.Legal.{offList, badInmode, badOpmode, badAlumode, badCarryinsel}
+use Rattle.legal.specs.Legal.{offList, badInmode, badOpmode, badAlumode, badCarryinsel, breaks}
 use Rattle.column.specs.declared.Check.{Check}
 use Rattle.column.specs.declared.Answer.the-variants.{Accepted}
 use Rattle.column.specs.Column.{stretch, columnNext, after}
-use Rattle.column.specs.Refusals.{exceeds, broken, fails, settings, lengthsFit, clockAnswer}
+use Rattle.column.specs.Refusals.{broken, fails, settings, lengthsFit, clockAnswer}
 use Rattle.column.proofs.Search.{none-lowest}
 use Rattle.column.proofs.Answers.{each-check, none-fails}
-use Rattle.column.proofs.Fits.{fit-within, column-within, cleared-within}
+use Rattle.records.proofs.Fits.{Fit, none, more, fit-within}
+use Rattle.column.proofs.Fits.{column-within, cleared-within}
 use Rattle.column.proofs.Stacks.{stacked-length}
 use Rattle.column.proofs.Edges.{next-length}
 use Rattle.packed.specs.Packed.{mostTerms, Batch, portsFor, fed, runAttributes, runPorts, runRegisters}
@@ -37,7 +38,7 @@ module _ (g : Batch) where
   -- slice k fails no check, where its registers are within their widths: no control register is in effect
   passes : (rs : List ℕ) (t k : ℕ) → k < g .terms → exceeds registerWidths (stretch registerWords k rs) ≡ false
       → (check : Check) → fails check (runAttributes (g .terms)) rs (runPorts g t) k ≡ false
-  unfolding fails broken exceeds offList badInmode badOpmode badAlumode badCarryinsel controlsOf selectsOf
+  unfolding fails broken breaks exceeds offList badInmode badOpmode badAlumode badCarryinsel controlsOf selectsOf
   passes rs t k h within =
       rw (attributes-part (g .terms) k h, ports-part g t k h)
       (each-check _ refl within (fit-within (ports-fit (fed g (g .a) t k) (fed g (g .d) t k) (fed g (g .b) t k))) refl refl refl refl)

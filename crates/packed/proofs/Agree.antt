@@ -7,9 +7,10 @@ use native.Mathlib.Omega.{arith}
 use lib.ListN.{length}
 use lib.IntN.{ℤ}
 use borrow.Author.Tests.{eq-eqb}
+use Rattle.lent.specs.Refusing.{leaves}
 use Rattle.packed.specs.declared.Run.{Run}
 use Rattle.packed.specs.Packed.{Batch, runClocks, runList, readAnswers, plainAnswers}
-use Rattle.packed.specs.Calls.{numberOf, leaves, clockedRun, ClockedDone, plainRun, PlainDone}
+use Rattle.packed.specs.Calls.{numberOf, clockedRun, ClockedDone, plainRun, PlainDone}
 use Rattle.packed.specs.Parts.{Ready, FedBytes}
 use Rattle.packed.proofs.Fed.{fed-term}
 use Rattle.packed.proofs.Passing.{any-clocks}
@@ -39,6 +40,6 @@ runs-agree {g} {os} {ws} right plain clocked =
     let same = eq-eqb (length ws) (runClocks (g .terms) (g .rows)) right in (
       ap numberOf (plain .run) ∙ any-clocks g (length os) true numberOf (λ m n. refl) 0 (length (runList g)) ∙ sym (ap numberOf (rw same at (clocked .run))),
       plain .answers
-          ∙ any-clocks g (length os) true (λ r. leaves r (plainAnswers g) os) (λ m n. refl) 0 (length (runList g))
+          ∙ any-clocks g (length os) true (λ r. leaves (numberOf r) (plainAnswers g) os) (λ m n. refl) 0 (length (runList g))
           ∙ sym (rw same at (clocked .exact)),
     )

@@ -21,19 +21,20 @@ row terms a d b = top (batch terms 1 a d b) (0 + terms + 3)
 abbrev lowest : List ℤ
 lowest = replicate 7 (negsuc 127)
 
+-- the unit is the clock's own, with USE_SIMD 0
 pub record Cases : Type 0 where
   -- mode 0, X 5, Y 7: 12
-  pub case1 : unitResult 0 0 5 7 0 0 ≡ 12
+  pub case1 : splitResult 0 0 0 5 7 0 0 ≡ 12
   -- mode 3, Z 0, X 1: 281474976710655
-  pub case2 : unitResult 3 0 1 0 0 0 ≡ 281474976710655
+  pub case2 : splitResult 0 3 0 1 0 0 0 ≡ 281474976710655
   -- mode 1, all 0: 281474976710655
-  pub case3 : unitResult 1 0 0 0 0 0 ≡ 281474976710655
+  pub case3 : splitResult 0 1 0 0 0 0 0 ≡ 281474976710655
   -- mode 1, CIN 1 only: 0
-  pub case4 : unitResult 1 0 0 0 0 1 ≡ 0
+  pub case4 : splitResult 0 1 0 0 0 0 1 ≡ 0
   -- mode 0, four operands all ones, CIN 1: 281474976710653
-  pub case5 : unitResult 0 (ones 48) (ones 48) (ones 48) (ones 48) 1 ≡ 281474976710653
+  pub case5 : splitResult 0 0 (ones 48) (ones 48) (ones 48) (ones 48) 1 ≡ 281474976710653
   -- mode 12, X 12, Z 10: Y 0 gives 8, Y all ones 14
-  pub case6 : (unitResult 12 0 12 0 10 0 ≡ 8) × (unitResult 12 0 12 (ones 48) 10 0 ≡ 14)
+  pub case6 : (splitResult 0 12 0 12 0 10 0 ≡ 8) × (splitResult 0 12 0 12 (ones 48) 10 0 ≡ 14)
   -- 2^47 shifted: 281473902968832
   pub case7 : shifted 48 17 (2 ^ 47) ≡ 281473902968832
   -- d 67108863 + a 1: 67108864, read as −67108864
@@ -74,7 +75,7 @@ pub record Slips : Type 0 where
   -- slice 1 reading slice 0's P after the edge: of 10 · 1 and 1 · 1 the first would be lost, and the high sum 1
   pub before-the-edge : highSum (row 2 (pos 10 ∷ pos 1 ∷ []) (pos 0 ∷ pos 0 ∷ []) (pos 1 ∷ pos 1 ∷ [])) ≡ pos 11
   -- mode 3 adding CIN where it is subtracted: 6
-  pub mode-3-takes-cin : unitResult 3 0 0 0 5 1 ≡ 4
+  pub mode-3-takes-cin : splitResult 0 3 0 0 0 5 1 ≡ 4
   -- the 17-bit shift filling with zeros: the top bit would be 0
   pub shift-keeps-sign : bit (shifted 48 17 (2 ^ 47)) 47 ≡ 1
   -- high sum taken without bit 17: 0 for case 11

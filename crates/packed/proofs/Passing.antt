@@ -12,10 +12,11 @@ use borrow.Author.Tests.{leb-true, eqb-true}
 use types.Run.{OneOf}
 use denote.Enum.Declared.{tagOf}
 use Rattle.word.proofs.Laws.{both-true}
+use Rattle.lent.specs.Refusing.{unless}
 use Rattle.packed.specs.declared.Run.{Run}
 use Rattle.packed.specs.declared.Run.the-variants.{Ran, BadTerms, BadRows, BadLength}
 use Rattle.packed.specs.Packed.{mostTerms, mostRows, Batch}
-use Rattle.packed.specs.Calls.{numberOf, termsFit, rowsFit, lengthsFit, unless, checked, leaves}
+use Rattle.packed.specs.Calls.{numberOf, termsFit, rowsFit, lengthsFit, checked}
 use Rattle.packed.specs.Parts.{Ready}
 use Rattle.packed.proofs.Run.{the-type}
 
@@ -96,13 +97,6 @@ refusal (Ran n) h = absurd (⊎-elim (λ e. omega arith) (λ l. ⊎-elim (λ e. 
 refusal BadTerms h = lit< tt
 refusal BadRows h = lit< tt
 refusal BadLength h = lit< tt
-
--- leaves what was there
-pub unstored : {X : Type 0} (r : Run) → 0 < numberOf r → (new old : X) → old ≡ leaves r new old
-unstored (Ran n) h new old = absurd (not-suc-le-zero h)
-unstored BadTerms h new old = refl
-unstored BadRows h new old = refl
-unstored BadLength h new old = refl
 
 -- ---- areas
 

@@ -9,8 +9,9 @@ use Rattle.unit.specs.Unit.{arithmetic, lanes, unitResult, splitResult, preAdde
 use Rattle.unit.specs.Detector.{unmasked, detected}
 use Rattle.slice.specs.Slice.{controlsOf, selectsOf, pathsOf, aSide, dSide, adOf, leftOf, rightOf, productOf, operandsOf, sliceOperands, resultOf, settledOf, sliceSettled, outputsOfSettled, cascadeOf, edge, nextOf, sliceOutputs, sliceCascade, sliceNext}
 use Rattle.column.specs.Column.{cascadeInto, shownAt, nextAt, columnShown, columnNext, after}
-use Rattle.packed.specs.Packed.{Batch, batch, fed, runAttributes, runPorts, runRegisters, top, runList, pairs, dot, plainAnswers}
-use Rattle.packed.specs.Calls.{numberOf, clocksOf, lengthsFit, checked, clockedRun, plainRun}
+use Rattle.packed.specs.declared.Run.the-variants.{Ran, BadTerms, BadRows, BadLength}
+use Rattle.packed.specs.Packed.{Batch, batch, fed, runAttributes, runPorts, runRegisters, top, runList, pairs, readAnswers, dot, plainAnswers}
+use Rattle.packed.specs.Calls.{numberOf, clocksOf, placeOf, lengthsFit, checked, clockedRun, plainRun}
 
 -- two rows of one term, (1, −1, 1) and (3, 4, 2); and of two terms
 abbrev two : Batch
@@ -27,6 +28,8 @@ pub record Runs : Type 0 where
   -- nothing shows before clock 4; then one row a clock, and the last row's word is the last
   pub list : runList two ≡ 0 ∷ 0 ∷ 0 ∷ 0 ∷ 262143 ∷ (6 * 2 ^ 18 + 8) ∷ []
   pub sums : plainAnswers two ≡ pos 1 ∷ negsuc 0 ∷ pos 6 ∷ pos 8 ∷ []
+  -- row j is read from the word of clock j + terms + 3, and from no other
+  pub read : readAnswers 1 2 (0 ∷ 0 ∷ 0 ∷ 5 ∷ 262143 ∷ (6 * 2 ^ 18 + 8) ∷ 7 ∷ []) ≡ pos 1 ∷ negsuc 0 ∷ pos 6 ∷ pos 8 ∷ []
   -- slice 1 gets term 1 of row 0 in clock 1 and of row 1 in clock 2, and zeros before and after
   pub slice-0 : (fed two-by-two (two-by-two .a) 0 0 ≡ pos 1) × (fed two-by-two (two-by-two .a) 1 0 ≡ pos 3) × (fed two-by-two (two-by-two .a) 2 0 ≡ pos 0)
   pub slice-1 : (fed two-by-two (two-by-two .a) 0 1 ≡ pos 0) × (fed two-by-two (two-by-two .a) 1 1 ≡ pos 2) × (fed two-by-two (two-by-two .a) 2 1 ≡ pos 4)
@@ -48,9 +51,18 @@ pub record Refused : Type 0 where
       × (clocksOf (clockedRun (zeros 7 1) (replicate 2 (pos 0)) (replicate 11 0)) ≡ 11)
   pub plain-steps-none : clocksOf (plainRun (zeros 7 1) (replicate 2 (pos 0))) ≡ 0
 
+-- 01's number of each answer, its clocks and its place
+pub record Told : Type 0 where
+  pub numbers : (numberOf (Ran 11) ≡ 0) × (numberOf BadTerms ≡ 10) × (numberOf BadRows ≡ 11) × (numberOf BadLength ≡ 2)
+  pub clocks : (clocksOf (Ran 11) ≡ 11) × (clocksOf BadTerms ≡ 0) × (clocksOf BadRows ≡ 0) × (clocksOf BadLength ≡ 0)
+  pub places : (placeOf (Ran 11) ≡ 0) × (placeOf BadTerms ≡ 0) × (placeOf BadRows ≡ 0) × (placeOf BadLength ≡ 0)
+
+pub told : Told
+told = record { numbers = (refl, refl, refl, refl); clocks = (refl, refl, refl, refl); places = (refl, refl, refl, refl) }
+
 pub runs : Runs
 unfolding runList top fed runAttributes runPorts runRegisters pairs dot after columnShown columnNext shownAt nextAt cascadeInto sliceNext sliceOutputs sliceCascade nextOf edge load outputsOfSettled cascadeOf sliceSettled settledOf resultOf sliceOperands operandsOf selectsOf controlsOf pathsOf productOf leftOf rightOf adOf aSide dSide splitResult unitResult lanes arithmetic preAdder product detected unmasked
-runs = record { list = refl; sums = refl; slice-0 = (refl, refl, refl); slice-1 = (refl, refl, refl, refl) }
+runs = record { list = refl; sums = refl; read = refl; slice-0 = (refl, refl, refl); slice-1 = (refl, refl, refl, refl) }
 
 pub refused : Refused
 unfolding clockedRun plainRun checked lengthsFit runList

@@ -2,11 +2,12 @@
 -- "Packed run: 10, 11, 2; a refused run writes no answer and no list word, and reports 0 clocks and place 0"). Assumes nothing.
 use Prim.Native.Nat.{ℕ, _*_}
 use mathlib.Core.Path.{_≡_, _∙_, sym}
-use mathlib.Core.Bool.{Bool, true, false, _&&_}
+use mathlib.Core.Bool.{Bool, true, _&&_}
 use mathlib.Core.List.{List}
 use lib.Dec.{leb, eqb}
 use lib.ListN.{length}
 use lib.IntN.{ℤ}
+use Rattle.lent.specs.Refusing.{unless, leaves}
 use Rattle.packed.specs.declared.Run.{Run}
 use Rattle.packed.specs.declared.Run.the-variants.{Ran, BadTerms, BadRows, BadLength}
 use Rattle.packed.specs.Packed.{mostTerms, mostRows, Batch, runClocks, runList, readAnswers, plainAnswers}
@@ -46,10 +47,6 @@ lengthsFit g answers =
     && eqb (length (g .b)) (g .rows * g .terms)
     && eqb answers (2 * g .rows)
 
-abbrev pub unless : Bool → Run → Run → Run
-unless true refused next = next
-unless false refused next = refused
-
 -- "Packed run: 10, 11, 2"; list is whether the list has its length, "which number 2 covers too"
 unfoldable pub checked : Batch → (answers : ℕ) → (list : Bool) → (clocks : ℕ) → Run
 checked g answers list clocks =
@@ -58,24 +55,18 @@ checked g answers list clocks =
     (unless (lengthsFit g answers && list) BadLength
     (Ran clocks)))
 
--- "a refused run writes no answer and no list word": the new content where the run is accepted, else what was there
-abbrev pub leaves : {X : Type 0} → Run → (new old : X) → X
-leaves (Ran clocks) new old = new
-leaves BadTerms new old = old
-leaves BadRows new old = old
-leaves BadLength new old = old
-
 -- `packed_clocked`, of the lent answers os and the lent list ws: "it returns the clocks it stepped, one for each word"
 unfoldable pub clockedRun : Batch → (os : List ℤ) → (ws : List ℕ) → Run
 clockedRun g os ws = checked g (length os) (eqb (length ws) (runClocks (g .terms) (g .rows))) (length (runList g))
 
+-- "a refused run writes no answer and no list word"
 pub record ClockedDone (g : Batch) (os : List ℤ) (ws : List ℕ) (r : Run) (os′ : List ℤ) (ws′ : List ℕ) : Type 0 where
   pub run : r ≡ clockedRun g os ws
-  pub list : ws′ ≡ leaves (clockedRun g os ws) (runList g) ws
+  pub list : ws′ ≡ leaves (numberOf (clockedRun g os ws)) (runList g) ws
   -- read off the list's words
-  pub answers : os′ ≡ leaves (clockedRun g os ws) (readAnswers (g .terms) (g .rows) (runList g)) os
+  pub answers : os′ ≡ leaves (numberOf (clockedRun g os ws)) (readAnswers (g .terms) (g .rows) (runList g)) os
   -- which are the exact dot products
-  pub exact : os′ ≡ leaves (clockedRun g os ws) (plainAnswers g) os
+  pub exact : os′ ≡ leaves (numberOf (clockedRun g os ws)) (plainAnswers g) os
 
 -- `packed_plain`, "without that list": no clock is stepped
 unfoldable pub plainRun : Batch → (os : List ℤ) → Run
@@ -83,7 +74,7 @@ plainRun g os = checked g (length os) true 0
 
 pub record PlainDone (g : Batch) (os : List ℤ) (r : Run) (os′ : List ℤ) : Type 0 where
   pub run : r ≡ plainRun g os
-  pub answers : os′ ≡ leaves (plainRun g os) (plainAnswers g) os
+  pub answers : os′ ≡ leaves (numberOf (plainRun g os)) (plainAnswers g) os
 
 -- no second outcome fits
 pub one-clocked : {g : Batch} {os : List ℤ} {ws : List ℕ} {r₁ r₂ : Run} {os₁ os₂ : List ℤ} {ws₁ ws₂ : List ℕ}

@@ -8,8 +8,8 @@ use lib.ListN.{length, set}
 use lib.IntN.{ℤ}
 use Rattle.records.specs.Records.{portWords, outputWords}
 use Rattle.records.specs.declared.Ports.{Ports}
-use Rattle.packed.specs.declared.checks.Lent.{Lent}
-use Rattle.packed.specs.declared.checks.Lent.the-variants.{NoList, Words}
+use Rattle.packed.specs.declared.checks.ListLength.{ListLength}
+use Rattle.packed.specs.declared.checks.ListLength.the-variants.{NoList, Words}
 use Rattle.packed.specs.Packed.{mostTerms, mostRows, Batch, Byte, fed, slicePorts, runAttributes, runPorts, runRegisters, top, runClocks, runList}
 
 -- the checks have passed: as many terms and rows as are taken, and arrays of their length
@@ -22,7 +22,7 @@ pub record Ready (g : Batch) : Type 0 where
   pub rights : length (g .b) ≡ g .rows * g .terms
 
 -- the list has its length, where the run is lent one
-abbrev pub listFits : (terms rows : ℕ) → Lent → Bool
+abbrev pub listFits : (terms rows : ℕ) → ListLength → Bool
 listFits terms rows NoList = true
 listFits terms rows (Words n) = eqb n (runClocks terms rows)
 

@@ -10,8 +10,8 @@ pub const MOST_TERMS: usize = 7;
 
 pub const MOST_ROWS: usize = 4096;
 
-// The list that a run is lent, by its length; the plain run has none.
-pub enum Lent {
+// How long a list a run is lent; the plain run has none.
+pub enum ListLength {
     NoList,
     Words(usize),
 }
@@ -37,13 +37,13 @@ fn lengths_fit(terms: usize, rows: usize, a: &[i8], d: &[i8], b: &[i8], answers:
     (a.len() == area) & (d.len() == area) & (b.len() == area) & (answers == 2 * rows)
 }
 
-fn list_fits(terms: usize, rows: usize, lent: Lent) -> bool
+fn list_fits(terms: usize, rows: usize, list: ListLength) -> bool
     requires { ⌜ (terms ≤ mostTerms) × (rows ≤ mostRows) ⌝ }
-    ensures { λ r. ⌜ r ≡ listFits terms rows lent ⌝ }
+    ensures { λ r. ⌜ r ≡ listFits terms rows list ⌝ }
 {
-    match lent {
-        Lent::NoList => true,
-        Lent::Words(words) => words == rows + terms + 3,
+    match list {
+        ListLength::NoList => true,
+        ListLength::Words(words) => words == rows + terms + 3,
     }
 }
 
@@ -55,9 +55,9 @@ pub fn run_answer(
     d: &[i8],
     b: &[i8],
     answers: usize,
-    lent: Lent,
+    list: ListLength,
 ) -> Run
-    ensures { λ r. ⌜ r ≡ checked (batch terms rows (now (a .entry)) (now (d .entry)) (now (b .entry))) answers (listFits terms rows lent) 0 ⌝ }
+    ensures { λ r. ⌜ r ≡ checked (batch terms rows (now (a .entry)) (now (d .entry)) (now (b .entry))) answers (listFits terms rows list) 0 ⌝ }
 {
     if !terms_fit(terms) {
         return Run::BadTerms;
@@ -66,7 +66,7 @@ pub fn run_answer(
         return Run::BadRows;
     }
     let lengths = lengths_fit(terms, rows, a, d, b, answers);
-    if !(lengths & list_fits(terms, rows, lent)) {
+    if !(lengths & list_fits(terms, rows, list)) {
         return Run::BadLength;
     }
     Run::Ran(0)

@@ -74,16 +74,6 @@ fn slice_ports(terms: usize, rows: usize, a: &[i8], d: &[i8], b: &[i8], t: usize
     ports_for(a[i], d[i], b[i])
 }
 
-// Every word of `to` becomes the word of `from` at its place.
-fn store(to: &mut [u64], from: &[u64])
-    requires { ⌜ length (now to) ≡ length (now from) ⌝ }
-    ensures { λ _. ⌜ now (to .exit) ≡ now (from .entry) ⌝ }
-{
-    for i in 0..from.len() {
-        to[i] = from[i];
-    }
-}
-
 // The attributes of as many slices as a run can have.
 pub fn all_attributes() -> [u64; Attributes::WORDS * MOST_TERMS]
     ensures { λ r. ⌜ r ≡ runAttributes mostTerms ⌝ }
@@ -92,7 +82,7 @@ pub fn all_attributes() -> [u64; Attributes::WORDS * MOST_TERMS]
     let mut all = [0; Attributes::WORDS * MOST_TERMS];
     for k in 0..MOST_TERMS {
         let i = Attributes::WORDS * k;
-        store(&mut all[i..i + Attributes::WORDS], &words);
+        lent::store(&mut all[i..i + Attributes::WORDS], &words);
     }
     all
 }
@@ -113,6 +103,6 @@ pub fn fill_ports(
     for k in 0..terms {
         let words = slice_ports(terms, rows, a, d, b, t, k).words();
         let i = Ports::WORDS * k;
-        store(&mut ports[i..i + Ports::WORDS], &words);
+        lent::store(&mut ports[i..i + Ports::WORDS], &words);
     }
 }

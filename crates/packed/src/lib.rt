@@ -10,7 +10,7 @@ mod clocked;
 mod feed;
 mod plain;
 
-use checks::Lent;
+use checks::ListLength;
 
 // What a run answers: `Ran` has the clocks that it stepped.
 pub enum Run {
@@ -33,8 +33,8 @@ pub fn packed_clocked(
     ensures { λ r.
         ⌜ ClockedDone (batch terms rows (now (a .entry)) (now (d .entry)) (now (b .entry))) (now (answers .entry)) (now (list .entry)) r (now (answers .exit)) (now (list .exit)) ⌝ }
 {
-    let lent = Lent::Words(list.len());
-    let answer = checks::run_answer(terms, rows, a, d, b, answers.len(), lent);
+    let length = ListLength::Words(list.len());
+    let answer = checks::run_answer(terms, rows, a, d, b, answers.len(), length);
     let Run::Ran(_) = answer else {
         return answer;
     };
@@ -55,7 +55,7 @@ pub fn packed_plain(
     ensures { λ r.
         ⌜ PlainDone (batch terms rows (now (a .entry)) (now (d .entry)) (now (b .entry))) (now (answers .entry)) r (now (answers .exit)) ⌝ }
 {
-    let answer = checks::run_answer(terms, rows, a, d, b, answers.len(), Lent::NoList);
+    let answer = checks::run_answer(terms, rows, a, d, b, answers.len(), ListLength::NoList);
     let Run::Ran(_) = answer else {
         return answer;
     };

@@ -1,2 +1,4 @@
 pub mod Unique
 pub mod Fits
+pub mod Searching
+pub mod Values

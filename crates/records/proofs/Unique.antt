@@ -18,6 +18,12 @@ use Rattle.records.proofs.Outputs.cleared.Kinds as outputs-cleared
 use Rattle.records.proofs.Outputs.cleared.Reads as outputs-cleared-reads
 use Rattle.records.proofs.Outputs.words.Kinds as outputs-words
 use Rattle.records.proofs.Outputs.words.Reads as outputs-words-reads
+use Rattle.records.proofs.Attributes.of.Kinds as attributes-of
+use Rattle.records.proofs.Attributes.of.Reads as attributes-of-reads
+use Rattle.records.proofs.Registers.of.Kinds as registers-of
+use Rattle.records.proofs.Registers.of.Reads as registers-of-reads
+use Rattle.records.proofs.Ports.of.Kinds as ports-of
+use Rattle.records.proofs.Ports.of.Reads as ports-of-reads
 
 pub attributes-cleared-once : Once attributes-cleared.ps attributes-cleared.r attributes-cleared-reads.Post
 attributes-cleared-once _ _ _ _ _ _ a b = a ∙ sym b
@@ -42,3 +48,12 @@ outputs-cleared-once _ _ _ _ _ _ a b = a ∙ sym b
 
 pub outputs-words-once : Once outputs-words.ps outputs-words.r outputs-words-reads.Post
 outputs-words-once _ _ _ _ _ _ a b = a ∙ sym b
+
+pub attributes-of-once : Once attributes-of.ps attributes-of.r attributes-of-reads.Post
+attributes-of-once _ _ _ _ _ _ a b = a ∙ sym b
+
+pub registers-of-once : Once registers-of.ps registers-of.r registers-of-reads.Post
+registers-of-once _ _ _ _ _ _ a b = a ∙ sym b
+
+pub ports-of-once : Once ports-of.ps ports-of.r ports-of-reads.Post
+ports-of-once _ _ _ _ _ _ a b = a ∙ sym b

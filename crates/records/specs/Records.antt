@@ -1,14 +1,16 @@
 -- The lent words of one slice (01, "The lent words"): how many each record has, their widths, and the words of a record and the
 -- record of some words, in 01's order. Assumes nothing.
-use Prim.Native.Nat.{ℕ, _^_, _<_}
+use Prim.Native.Nat.{ℕ, zero, suc, _^_}
+use mathlib.Core.Bool.{Bool, false, _||_}
 use mathlib.Core.List.{List, [], _∷_}
-use lib.ListN.{getD}
+use lib.Dec.{leb}
+use lib.ListN.{length, getD}
 use Rattle.records.specs.declared.Attributes.{Attributes}
 use Rattle.records.specs.declared.Registers.{Registers}
 use Rattle.records.specs.declared.Ports.{Ports}
 use Rattle.records.specs.declared.Outputs.{Outputs}
 
--- Attributes 22 (02, "Split adder"), registers 18, ports 11, outputs 5 a slice
+-- Attributes 22 (02, Ask 1), registers 18, ports 11, outputs 5 a slice
 abbrev pub attributeWords : ℕ
 attributeWords = 22
 
@@ -21,7 +23,8 @@ portWords = 11
 abbrev pub outputWords : ℕ
 outputWords = 5
 
--- The width of every word, in one table a record. AREG, BREG, the CASCREGs and USE_SIMD have two bits, and their list beside (Legal, `listed`, `splitFits`)
+-- The width of every word, in one table a record. AREG, BREG, the CASCREGs and USE_SIMD have two bits, and their list beside (`legal`,
+-- `listed`, `splitFits`)
 abbrev pub attributeWidths : List ℕ
 attributeWidths = 2 ∷ 2 ∷ 2 ∷ 2 ∷ 1 ∷ 1 ∷ 1 ∷ 1 ∷ 1 ∷ 1 ∷ 1 ∷ 1 ∷ 1 ∷ 1 ∷ 1 ∷ 1 ∷ 1 ∷ 1 ∷ 48 ∷ 48 ∷ 48 ∷ 2 ∷ []
 
@@ -31,10 +34,14 @@ registerWidths = 30 ∷ 30 ∷ 18 ∷ 18 ∷ 48 ∷ 27 ∷ 27 ∷ 45 ∷ 48 ∷ 
 abbrev pub portWidths : List ℕ
 portWidths = 30 ∷ 18 ∷ 48 ∷ 27 ∷ 9 ∷ 4 ∷ 5 ∷ 3 ∷ 1 ∷ 13 ∷ 10 ∷ []
 
--- Each word is below the power of two of its width
-pub data Fit : (widths words : List ℕ) → Type 0 where
-  none : Fit [] []
-  more : {w x : ℕ} {ws xs : List ℕ} → x < 2 ^ w → Fit ws xs → Fit (w ∷ ws) (x ∷ xs)
+-- the test holds at some number below n
+abbrev pub some : (ℕ → Bool) → (n : ℕ) → Bool
+some f zero = false
+some f (suc n) = some f n || f n
+
+-- a word exceeds its width
+unfoldable pub exceeds : (widths words : List ℕ) → Bool
+exceeds widths words = some (λ i. leb (2 ^ getD widths i 0) (getD words i 0)) (length widths)
 
 abbrev pub attributesOf : List ℕ → Attributes
 attributesOf ws =

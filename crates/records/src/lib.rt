@@ -1,7 +1,9 @@
-// The four records of a slice (01, "The lent words"): their words by name and in their order, how many they are, and the
-// cleared slice.
+// The four records of a slice (01, "The lent words"): their words by name and in their order, how many they are and how wide,
+// the record of a stretch of lent words, and the cleared slice.
 ghost use mathlib.Core.Path.{_≡_};
-ghost use lib.ListN.{replicate};
+ghost use Prim.Native.Nat.{_≤_};
+ghost use lib.ListN.{length, replicate};
+ghost use Rattle.lent.specs.Words.{enough};
 ghost use Rattle.records.specs.Records.{attributeWords, attributesOf, attributesWords, registerWords, registersOf, registersWords, portWords, portsOf, portsWords, outputWords, outputsOf, outputsWords};
 
 // A slice's settings.
@@ -86,6 +88,46 @@ impl Attributes {
             mask: 0,
             use_simd: 0,
         }
+    }
+
+    fn read(words: &[u64]) -> Attributes
+        requires { ⌜ attributeWords ≤ length (now words) ⌝ }
+        ensures { λ r. ⌜ r ≡ attributesOf (now (words .entry)) ⌝ }
+    {
+        Attributes {
+            areg: words[0],
+            breg: words[1],
+            acascreg: words[2],
+            bcascreg: words[3],
+            a_input: words[4],
+            b_input: words[5],
+            creg: words[6],
+            dreg: words[7],
+            adreg: words[8],
+            mreg: words[9],
+            preg: words[10],
+            opmodereg: words[11],
+            alumodereg: words[12],
+            inmodereg: words[13],
+            carryinreg: words[14],
+            carryinselreg: words[15],
+            use_mult: words[16],
+            amultsel: words[17],
+            rnd: words[18],
+            pattern: words[19],
+            mask: words[20],
+            use_simd: words[21],
+        }
+    }
+
+    // The record of a stretch of lent words. Of a stretch that is too short no word is read: each is 0.
+    pub fn of(words: &[u64]) -> Attributes
+        ensures { λ r. ⌜ r ≡ attributesOf (enough attributeWords (now (words .entry))) ⌝ }
+    {
+        if words.len() < Attributes::WORDS {
+            return Attributes::cleared();
+        }
+        Attributes::read(words)
     }
 
     pub fn words(self) -> [u64; Attributes::WORDS]
@@ -190,6 +232,42 @@ impl Registers {
         }
     }
 
+    fn read(words: &[u64]) -> Registers
+        requires { ⌜ registerWords ≤ length (now words) ⌝ }
+        ensures { λ r. ⌜ r ≡ registersOf (now (words .entry)) ⌝ }
+    {
+        Registers {
+            a1: words[0],
+            a2: words[1],
+            b1: words[2],
+            b2: words[3],
+            c: words[4],
+            d: words[5],
+            ad: words[6],
+            m: words[7],
+            p: words[8],
+            opmode: words[9],
+            alumode: words[10],
+            inmode: words[11],
+            carryinsel: words[12],
+            carryin: words[13],
+            pd: words[14],
+            pbd: words[15],
+            pdpast: words[16],
+            pbdpast: words[17],
+        }
+    }
+
+    // The record of a stretch of lent words. Of a stretch that is too short no word is read: each is 0.
+    pub fn of(words: &[u64]) -> Registers
+        ensures { λ r. ⌜ r ≡ registersOf (enough registerWords (now (words .entry))) ⌝ }
+    {
+        if words.len() < Registers::WORDS {
+            return Registers::cleared();
+        }
+        Registers::read(words)
+    }
+
     pub fn words(self) -> [u64; Registers::WORDS]
         ensures { λ r. ⌜ r ≡ registersWords self ⌝ }
     {
@@ -253,6 +331,35 @@ impl Ports {
             ce: 0,
             rst: 0,
         }
+    }
+
+    fn read(words: &[u64]) -> Ports
+        requires { ⌜ portWords ≤ length (now words) ⌝ }
+        ensures { λ r. ⌜ r ≡ portsOf (now (words .entry)) ⌝ }
+    {
+        Ports {
+            a: words[0],
+            b: words[1],
+            c: words[2],
+            d: words[3],
+            opmode: words[4],
+            alumode: words[5],
+            inmode: words[6],
+            carryinsel: words[7],
+            carryin: words[8],
+            ce: words[9],
+            rst: words[10],
+        }
+    }
+
+    // The record of a stretch of lent words. Of a stretch that is too short no word is read: each is 0.
+    pub fn of(words: &[u64]) -> Ports
+        ensures { λ r. ⌜ r ≡ portsOf (enough portWords (now (words .entry))) ⌝ }
+    {
+        if words.len() < Ports::WORDS {
+            return Ports::cleared();
+        }
+        Ports::read(words)
     }
 
     pub fn words(self) -> [u64; Ports::WORDS]

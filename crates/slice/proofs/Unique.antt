@@ -4,11 +4,16 @@ use mathlib.Core.Path.{sym, _∙_}
 use Rattle.word.proofs.Unique.{Once}
 use Rattle.slice.proofs.edge.stepped.Kinds as stepped
 use Rattle.slice.proofs.edge.stepped.Reads as stepped-reads
-use Rattle.slice.proofs.legal.fault_of.Kinds as fault-of
-use Rattle.slice.proofs.legal.fault_of.Reads as fault-of-reads
+use Rattle.slice.proofs.inputs.in_effect.Kinds as in-effect
+use Rattle.slice.proofs.inputs.in_effect.Reads as in-effect-reads
+use Rattle.slice.proofs.inputs.selects_of.Kinds as selects-of
+use Rattle.slice.proofs.inputs.selects_of.Reads as selects-of-reads
 
 pub stepped-once : Once stepped.ps stepped.r stepped-reads.Post
 stepped-once _ _ _ _ _ _ a b = a ∙ sym b
 
-pub fault-of-once : Once fault-of.ps fault-of.r fault-of-reads.Post
-fault-of-once _ _ _ _ _ _ a b = a ∙ sym b
+pub in-effect-once : Once in-effect.ps in-effect.r in-effect-reads.Post
+in-effect-once _ _ _ _ _ _ a b = a ∙ sym b
+
+pub selects-of-once : Once selects-of.ps selects-of.r selects-of-reads.Post
+selects-of-once _ _ _ _ _ _ a b = a ∙ sym b

@@ -1,7 +1,6 @@
 -- Facts by value that pin the definitions of a slice: each stands beside a slip that would break it. Assumes nothing.
 use mathlib.Core.Path.{_≡_, refl}
-use mathlib.Core.Bool.{true, false}
-use mathlib.Core.List.{List, [], _∷_, _++_}
+use mathlib.Core.List.{[], _∷_, _++_}
 use lib.ListN.{replicate}
 use Prim.Native.Nat.{ℕ, _+_, _*_, _^_}
 use Rattle.unit.specs.Unit.{arithmetic, lanes, logicRows, unitResult, splitResult, preAdder, product, load}
@@ -12,7 +11,6 @@ use Rattle.records.specs.declared.Ports.{Ports}
 use Rattle.slice.specs.declared.inputs.Cascade.{Cascade}
 use Rattle.records.specs.Records.{attributesOf, registersOf, portsOf, outputsWords}
 use Rattle.slice.specs.Slice.{controlsOf, selectsOf, pathsOf, aSide, dSide, adOf, leftOf, rightOf, productOf, operandsOf, sliceOperands, resultOf, settledOf, sliceSettled, outputsOfSettled, cascadeOf, edge, nextOf, sliceOutputs, sliceCascade, sliceNext}
-use Rattle.slice.specs.Legal.{listed, splitFits, offList, badInmode, badOpmode, badAlumode, badCarryinsel}
 
 -- settings, of which all others are 0
 abbrev plain : Attributes
@@ -111,27 +109,6 @@ pub record Edges : Type 0 where
   pub p-loads : sliceNext plain empty (given 12 0 0 0 0 256 0) bottom .p ≡ 5
   pub m-loads : sliceNext plain empty (given 0 0 0 0 0 128 0) bottom .m ≡ 12
 
-pub record Legality : Type 0 where
-  pub cascregs : (listed 2 1 ≡ true) × (listed 2 2 ≡ true) × (listed 1 1 ≡ true) × (listed 0 0 ≡ true)
-  pub off : (listed 1 2 ≡ false) × (listed 0 1 ≡ false) × (listed 2 0 ≡ false) × (listed 2 3 ≡ false) × (listed 3 3 ≡ false)
-  -- USE_SIMD 0 to 2, and 0 alone with USE_MULT
-  pub splits : (splitFits 0 0 ≡ true) × (splitFits 0 1 ≡ true) × (splitFits 0 2 ≡ true) × (splitFits 1 0 ≡ true)
-  pub no-splits : (splitFits 0 3 ≡ false) × (splitFits 1 1 ≡ false) × (splitFits 1 2 ≡ false)
-  -- INMODE bit 0 with AREG 0, bit 2 with AMULTSEL 0, bit 4 with BREG 0; bit 1 is free
-  pub inmode-bits : (badInmode plain (controlsOf plain empty (given 0 0 1 0 0 0 0)) ≡ true) × (badInmode plain (controlsOf plain empty (given 0 0 4 0 0 0 0)) ≡ true)
-      × (badInmode plain (controlsOf plain empty (given 0 0 16 0 0 0 0)) ≡ true) × (badInmode plain (controlsOf plain empty (given 0 0 2 0 0 0 0)) ≡ false)
-  -- X 1 alone, Y 1 alone, both without USE_MULT, both with it; X 2 with PREG 0, with PREG 1; Z 4 and 7
-  pub opmode-selects : (badOpmode multiplying (selectsOf 1) ≡ true) × (badOpmode multiplying (selectsOf 4) ≡ true) × (badOpmode plain (selectsOf 5) ≡ true)
-      × (badOpmode multiplying (selectsOf 5) ≡ false) × (badOpmode plain (selectsOf 2) ≡ true) × (badOpmode registered (selectsOf 2) ≡ false)
-      × (badOpmode plain (selectsOf 64) ≡ true) × (badOpmode plain (selectsOf 112) ≡ true)
-  -- 7 and 12 are logic modes, 8 and 11 are refused, 3 is free; a logic mode with W 3, Y 3 or X 1
-  pub alumodes : (badAlumode 7 (selectsOf 0) ≡ false) × (badAlumode 8 (selectsOf 0) ≡ true) × (badAlumode 11 (selectsOf 0) ≡ true) × (badAlumode 12 (selectsOf 8) ≡ false)
-      × (badAlumode 3 (selectsOf 384) ≡ false) × (badAlumode 4 (selectsOf 384) ≡ true) × (badAlumode 4 (selectsOf 12) ≡ true) × (badAlumode 4 (selectsOf 5) ≡ true)
-  -- 2 and 4 are refused, 3 is free, 7 asks for PREG 1
-  pub carryinsels : (badCarryinsel plain (controlsOf plain empty (given 0 0 0 2 0 0 0)) ≡ true) × (badCarryinsel plain (controlsOf plain empty (given 0 0 0 4 0 0 0)) ≡ true)
-      × (badCarryinsel plain (controlsOf plain empty (given 0 0 0 3 0 0 0)) ≡ false) × (badCarryinsel plain (controlsOf plain empty (given 0 0 0 7 0 0 0)) ≡ true)
-      × (badCarryinsel registered (controlsOf registered empty (given 0 0 0 7 0 0 0)) ≡ false)
-
 pub clocks : Clocks
 unfolding sliceOutputs sliceCascade outputsOfSettled cascadeOf sliceSettled settledOf resultOf sliceOperands operandsOf selectsOf productOf leftOf rightOf adOf aSide dSide controlsOf pathsOf splitResult unitResult lanes arithmetic logicRows preAdder product detected unmasked
 clocks =
@@ -172,18 +149,4 @@ edges =
       settled-pd = refl;
       p-loads = refl;
       m-loads = refl;
-    }
-
-pub legality : Legality
-unfolding badInmode badOpmode badAlumode badCarryinsel controlsOf selectsOf
-legality =
-    record {
-      cascregs = (refl, refl, refl, refl);
-      off = (refl, refl, refl, refl, refl);
-      splits = (refl, refl, refl, refl);
-      no-splits = (refl, refl, refl);
-      inmode-bits = (refl, refl, refl, refl);
-      opmode-selects = (refl, refl, refl, refl, refl, refl, refl, refl);
-      alumodes = (refl, refl, refl, refl, refl, refl, refl, refl);
-      carryinsels = (refl, refl, refl, refl, refl);
     }

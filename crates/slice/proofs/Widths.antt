@@ -12,8 +12,8 @@ use Rattle.records.specs.declared.Attributes.{Attributes}
 use Rattle.records.specs.declared.Registers.{Registers}
 use Rattle.records.specs.declared.Ports.{Ports}
 use Rattle.slice.specs.declared.inputs.Cascade.{Cascade}
-use Rattle.records.specs.Records.{registerWidths, portWidths, Fit, none, more, registersWords, portsWords}
-use Rattle.records.proofs.Fits.{fit-at}
+use Rattle.records.specs.Records.{registerWidths, portWidths, registersWords, portsWords}
+use Rattle.records.proofs.Fits.{Fit, none, more, fit-at}
 use Rattle.slice.specs.Slice.{pathsOf, adOf, productOf, resultOf, settledOf, sliceSettled, outputsOfSettled, cascadeOf, edge, nextOf, sliceOutputs, sliceCascade, sliceNext}
 
 -- the cascade: A 30 bits, B 18, P 48

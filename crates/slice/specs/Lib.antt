@@ -1,3 +1,1 @@
 pub mod Slice
-pub mod Legal
-pub mod Sound

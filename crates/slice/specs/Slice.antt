@@ -5,7 +5,6 @@ use mathlib.Core.Bool.{cond, _&&_}
 use mathlib.Core.List.{[], _∷_}
 use lib.Dec.{eqb}
 use Rattle.word.specs.Word.{extend, shifted}
-use Rattle.unit.specs.declared.Detected.{Detected}
 use Rattle.unit.specs.Choice.{mux, choose, bit}
 use Rattle.unit.specs.Unit.{ones, splitResult, preAdder, product, load}
 use Rattle.unit.specs.Detector.{detected}

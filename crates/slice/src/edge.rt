@@ -162,8 +162,8 @@ pub fn stepped(a: Attributes, r: Registers, p: Ports, x: Cascade) -> Step
     let result = unit::split_result(a.use_simd, k.alumode, o.w, o.x, o.y, o.z, o.cin);
     let v = settled_from(a, t, result);
     let shown = shown(a, r, v);
-    let next = loaded(a, r, p, s, v);
     let up = handed_up(a, r, s, shown.p);
+    let next = loaded(a, r, p, s, v);
     Step {
         next: next,
         shown: shown,

@@ -40,6 +40,7 @@ pub struct Paths {
     pub carryin: u64,
 }
 
+// The control words in effect: the register where its ..REG is 1, else the port.
 pub fn in_effect(a: Attributes, r: Registers, p: Ports) -> Controls
     ensures { λ k. ⌜ k ≡ controlsOf a r p ⌝ }
 {
@@ -51,6 +52,7 @@ pub fn in_effect(a: Attributes, r: Registers, p: Ports) -> Controls
     }
 }
 
+// The fields of OPMODE.
 pub fn selects_of(opmode: u64) -> Selects
     ensures { λ s. ⌜ s ≡ selectsOf opmode ⌝ }
 {

@@ -10,6 +10,7 @@ use lib.Dec.{ltb}
 use lib.Seq.{length-take-le, take-suc, take-all}
 use lib.ListN.{length, take, set, getD, length-append}
 use borrow.Author.Tests.{lt-ltb, le-ltb, le-leb, lt-leb}
+use Rattle.text.specs.Bytes.{newline, digit0, fieldRoom}
 use Rattle.text.specs.Printed.{spelled, decimalOf, fieldOf, fieldsOf, printed, Put, lineWithin}
 use Rattle.text.proofs.Paste.{put-none, put-more, put-one, put-length}
 
@@ -21,15 +22,15 @@ spelled-enough zero n h =
     rw (lt-ltb n 10 l, e)
 spelled-enough (suc f) n h =
     let l : n < 10 ^ suc f * 10 = rw (pow-suc 10 (suc f)) at h in
-    ap (λ r. cond (ltb n 10) ((48 + n) ∷ []) (r ++ ((48 + n % 10) ∷ []))) (spelled-enough f (n / 10) (omega arith))
+    ap (λ r. cond (ltb n 10) ((digit0 + n) ∷ []) (r ++ ((digit0 + n % 10) ∷ []))) (spelled-enough f (n / 10) (omega arith))
 
-pub decimal-one : (n : ℕ) → n < 10 → decimalOf n ≡ (48 + n) ∷ []
+decimal-one : (n : ℕ) → n < 10 → decimalOf n ≡ (digit0 + n) ∷ []
 unfolding decimalOf
 decimal-one n h = rw (lt-ltb n 10 h)
 
-pub decimal-more : (n : ℕ) → 10 ≤ n → n < 2 ^ 64 → decimalOf n ≡ decimalOf (n / 10) ++ ((48 + n % 10) ∷ [])
+decimal-more : (n : ℕ) → 10 ≤ n → n < 2 ^ 64 → decimalOf n ≡ decimalOf (n / 10) ++ ((digit0 + n % 10) ∷ [])
 unfolding decimalOf
-decimal-more n h l = rw (le-ltb n 10 h) (ap (λ r. r ++ ((48 + n % 10) ∷ [])) (sym (spelled-enough 18 (n / 10) (omega arith))))
+decimal-more n h l = rw (le-ltb n 10 h) (ap (λ r. r ++ ((digit0 + n % 10) ∷ [])) (sym (spelled-enough 18 (n / 10) (omega arith))))
 
 -- lengths
 spelled-length : (f n : ℕ) → length (spelled f n) ≤ f + 1
@@ -37,7 +38,7 @@ spelled-length zero n = omega arith
 spelled-length (suc f) n = go (ltb n 10) (spelled-length f (n / 10))
   where
     go : (b : Bool) → length (spelled f (n / 10)) ≤ f + 1
-        → length (cond b ((48 + n) ∷ []) (spelled f (n / 10) ++ ((48 + n % 10) ∷ []))) ≤ suc f + 1
+        → length (cond b ((digit0 + n) ∷ []) (spelled f (n / 10) ++ ((digit0 + n % 10) ∷ []))) ≤ suc f + 1
     go true h = omega arith
     go false h = rw length-append (omega arith)
 
@@ -45,26 +46,26 @@ pub decimal-length : (n : ℕ) → length (decimalOf n) ≤ 20
 unfolding decimalOf
 decimal-length n = omega (arith, spelled-length 19 n)
 
-pub field-length : (n : ℕ) → length (fieldOf n) ≤ 21
+field-length : (n : ℕ) → length (fieldOf n) ≤ fieldRoom
 field-length n = omega (arith, decimal-length n)
 
-pub fields-length : (ns : List ℕ) → length (fieldsOf ns) ≤ 21 * length ns
+fields-length : (ns : List ℕ) → length (fieldsOf ns) ≤ fieldRoom * length ns
 fields-length [] = omega arith
 fields-length (n ∷ ns) = rw (length-append (fieldOf n) (fieldsOf ns)) (omega (arith, field-length n, fields-length ns))
 
-pub printed-length : (letter : ℕ) (ns : List ℕ) → length (printed letter ns) ≤ 21 * length ns + 2
+pub printed-length : (letter : ℕ) (ns : List ℕ) → length (printed letter ns) ≤ fieldRoom * length ns + 2
 unfolding printed
-printed-length letter ns = rw (length-append (fieldsOf ns) (10 ∷ [])) (omega (arith, fields-length ns))
+printed-length letter ns = rw (length-append (fieldsOf ns) (newline ∷ [])) (omega (arith, fields-length ns))
 
 -- a line is printed where there is room for it, and else nothing is
 module _ (letter : ℕ) (ns : List ℕ) (at : ℕ) (out : List ℕ) where
-  pub line-fits : 21 * (length ns + 1) + at ≤ length out → lineWithin letter ns at out ≡ printed letter ns
-  line-fits h = rw (le-leb (21 * (length ns + 1)) (length out - at) (omega arith))
+  pub line-fits : fieldRoom * (length ns + 1) + at ≤ length out → lineWithin letter ns at out ≡ printed letter ns
+  line-fits h = rw (le-leb (fieldRoom * (length ns + 1)) (length out - at) (omega arith))
 
-  pub line-lacks : length out - at < 21 * (length ns + 1) → lineWithin letter ns at out ≡ []
-  line-lacks h = rw (lt-leb (21 * (length ns + 1)) (length out - at) h)
+  line-lacks : length out - at < fieldRoom * (length ns + 1) → lineWithin letter ns at out ≡ []
+  line-lacks h = rw (lt-leb (fieldRoom * (length ns + 1)) (length out - at) h)
 
-  pub nothing-put : length out - at < 21 * (length ns + 1) → Put at (lineWithin letter ns at out) out at out
+  pub nothing-put : length out - at < fieldRoom * (length ns + 1) → Put at (lineWithin letter ns at out) out at out
   nothing-put h = rw (line-lacks h) (put-none at out)
 
 -- what `decimal` leaves
@@ -72,19 +73,19 @@ module _ (n at : ℕ) (out : List ℕ) (room : at + length (decimalOf n) ≤ len
   pub one-room : n < 10 → at < length out
   one-room h = omega (arith, ap length (decimal-one n h))
 
-  pub one-put : n < 10 → Put at (decimalOf n) out (at + 1) (set out at (48 + n))
-  one-put h = rw (decimal-one n h) (put-one at (48 + n) out (one-room h))
+  pub one-put : n < 10 → Put at (decimalOf n) out (at + 1) (set out at (digit0 + n))
+  one-put h = rw (decimal-one n h) (put-one at (digit0 + n) out (one-room h))
 
   module _ (more : 10 ≤ n) (small : n < 2 ^ 64) where
     pub tenth-room : at + length (decimalOf (n / 10)) < length out
-    tenth-room = omega (arith, ap length (decimal-more n more small), length-append (decimalOf (n / 10)) ((48 + n % 10) ∷ []))
+    tenth-room = omega (arith, ap length (decimal-more n more small), length-append (decimalOf (n / 10)) ((digit0 + n % 10) ∷ []))
 
     module _ (end : ℕ) (out′ : List ℕ) (p : Put at (decimalOf (n / 10)) out end out′) where
       pub last-room : end < length out′
       last-room = omega (arith, tenth-room, p .ends, put-length p (omega (arith, tenth-room)))
 
-      pub last-put : Put at (decimalOf n) out (end + 1) (set out′ end (48 + n % 10))
-      last-put = rw (decimal-more n more small) (put-more p (put-one end (48 + n % 10) out′ last-room) (omega (arith, tenth-room)))
+      pub last-put : Put at (decimalOf n) out (end + 1) (set out′ end (digit0 + n % 10))
+      last-put = rw (decimal-more n more small) (put-more p (put-one end (digit0 + n % 10) out′ last-room) (omega (arith, tenth-room)))
 
 -- a turn of `fields`
 fields-more : (ns ms : List ℕ) → fieldsOf (ns ++ ms) ≡ fieldsOf ns ++ fieldsOf ms
@@ -97,14 +98,14 @@ fields-next i ns h =
     (ap (λ (l : List ℕ). fieldsOf (take i ns) ++ l) (append-nil (fieldOf (getD ns i 0))))
 
 module _ (i : ℕ) (ns : List ℕ) {at end : ℕ} {out₀ out : List ℕ}
-    (so-far : Put at (fieldsOf (take i ns)) out₀ end out) (least : i ≤ length ns) (room : at + 21 * length ns ≤ length out₀) where
-  so-long : at + length (fieldsOf (take i ns)) ≤ at + 21 * i
+    (so-far : Put at (fieldsOf (take i ns)) out₀ end out) (least : i ≤ length ns) (room : at + fieldRoom * length ns ≤ length out₀) where
+  so-long : at + length (fieldsOf (take i ns)) ≤ at + fieldRoom * i
   so-long = omega (arith, fields-length (take i ns), length-take-le i ns least)
 
   pub kept-length : length out ≡ length out₀
   kept-length = put-length so-far (omega (arith, so-long))
 
-  pub next-room : i < length ns → end + 21 ≤ length out
+  pub next-room : i < length ns → end + fieldRoom ≤ length out
   next-room h = omega (arith, so-long, kept-length, so-far .ends)
 
   pub one-field : i < length ns → {r : ℕ} {out′ : List ℕ} → Put end (fieldOf (getD ns i 0)) out r out′
@@ -115,7 +116,7 @@ module _ (i : ℕ) (ns : List ℕ) {at end : ℕ} {out₀ out : List ℕ}
   all-fields h = rw (take-all i ns h) at so-far
 
 -- what `line` leaves
-module _ (letter at end : ℕ) (ns out₀ out : List ℕ) (room : at + 21 * length ns + 2 ≤ length out₀)
+module _ (letter at end : ℕ) (ns out₀ out : List ℕ) (room : at + fieldRoom * length ns + 2 ≤ length out₀)
     (p : Put (at + 1) (fieldsOf ns) (set out₀ at letter) end out) where
   front-put : Put at (letter ∷ fieldsOf ns) out₀ end out
   front-put = put-more (put-one at letter out₀ (omega arith)) p (omega arith)
@@ -123,6 +124,6 @@ module _ (letter at end : ℕ) (ns out₀ out : List ℕ) (room : at + 21 * leng
   pub newline-room : end < length out
   newline-room = omega (arith, p .ends, fields-length ns, put-length front-put (omega (arith, fields-length ns)))
 
-  pub whole-line : Put at (printed letter ns) out₀ (end + 1) (set out end 10)
+  pub whole-line : Put at (printed letter ns) out₀ (end + 1) (set out end newline)
   unfolding printed
-  whole-line = put-more front-put (put-one end 10 out newline-room) (omega (arith, fields-length ns))
+  whole-line = put-more front-put (put-one end newline out newline-room) (omega (arith, fields-length ns))

@@ -9,8 +9,9 @@ use lib.Dec.{eqb, leb, ltb, eqb·suc-suc, eqb·zero-suc, eqb·suc-zero}
 use lib.ListN.{length, take, drop, getD, set, replicate, length-replicate, length-set}
 use lib.Seq.{take-suc-set, drop-drop, take-all}
 use borrow.Author.Tests.{eqb-true, eqb-false, ltb-true, ltb-false}
-use Rattle.text.specs.declared.Parsed.{Parsed}
-use Rattle.text.specs.declared.Parsed.the-variants.{Value, Bad}
+use Rattle.text.specs.Bytes.{tab, mostBytes}
+use Rattle.text.specs.declared.numeral.Parsed.{Parsed}
+use Rattle.text.specs.declared.numeral.Parsed.the-variants.{Value, Bad}
 use Rattle.text.specs.declared.numeral.Found.{Found}
 use Rattle.text.specs.declared.numeral.Found.the-variants.{Number, Nothing}
 use Rattle.text.specs.Parts.{parted, onto}
@@ -22,32 +23,32 @@ use Rattle.text.proofs.Numerals.{cond-same, next-byte, none-left, found
 -- the parts that follow the first
 abbrev following : List ℕ → List (List ℕ)
 following [] = []
-following (b ∷ bs) = parted 9 bs
+following (b ∷ bs) = parted tab bs
 
-part-first : (s : List ℕ) → parted 9 s ≡ before 9 s ∷ following (drop (length (before 9 s)) s)
+part-first : (s : List ℕ) → parted tab s ≡ before tab s ∷ following (drop (length (before tab s)) s)
 part-first [] = refl
-part-first (b ∷ bs) = go (eqb b 9) (part-first bs)
+part-first (b ∷ bs) = go (eqb b tab) (part-first bs)
   where
-    go : (t : Bool) → parted 9 bs ≡ before 9 bs ∷ following (drop (length (before 9 bs)) bs)
-        → cond t ([] ∷ parted 9 bs) (onto b (parted 9 bs))
-        ≡ cond t [] (b ∷ before 9 bs) ∷ following (drop (length (cond t [] (b ∷ before 9 bs))) (b ∷ bs))
+    go : (t : Bool) → parted tab bs ≡ before tab bs ∷ following (drop (length (before tab bs)) bs)
+        → cond t ([] ∷ parted tab bs) (onto b (parted tab bs))
+        ≡ cond t [] (b ∷ before tab bs) ∷ following (drop (length (cond t [] (b ∷ before tab bs))) (b ∷ bs))
     go true e = refl
     go false e = ap (onto b) e
 
 -- what follows a part is nothing, or begins with a tab
-follows-due : (m : ℕ) (s : List ℕ) → counted m (following (drop (length (before 9 s)) s)) ≡ due m (drop (length (before 9 s)) s)
+follows-due : (m : ℕ) (s : List ℕ) → counted m (following (drop (length (before tab s)) s)) ≡ due m (drop (length (before tab s)) s)
 follows-due m [] = refl
-follows-due m (b ∷ bs) = go (eqb b 9) refl (follows-due m bs)
+follows-due m (b ∷ bs) = go (eqb b tab) refl (follows-due m bs)
   where
-    go : (t : Bool) → eqb b 9 ≡ t
-        → counted m (following (drop (length (before 9 bs)) bs)) ≡ due m (drop (length (before 9 bs)) bs)
-        → counted m (following (drop (length (cond t [] (b ∷ before 9 bs))) (b ∷ bs)))
-        ≡ due m (drop (length (cond t [] (b ∷ before 9 bs))) (b ∷ bs))
+    go : (t : Bool) → eqb b tab ≡ t
+        → counted m (following (drop (length (before tab bs)) bs)) ≡ due m (drop (length (before tab bs)) bs)
+        → counted m (following (drop (length (cond t [] (b ∷ before tab bs))) (b ∷ bs)))
+        ≡ due m (drop (length (cond t [] (b ∷ before tab bs))) (b ∷ bs))
     go true e h = rw e
     go false e h = h
 
 -- numbers that are read, and then those that are left
-abbrev pub prefixed : List ℕ → Numbers → Numbers
+abbrev prefixed : List ℕ → Numbers → Numbers
 prefixed ws (values vs) = values (ws ++ vs)
 prefixed ws malformed = malformed
 
@@ -74,37 +75,37 @@ counted-more m f fs = rw (eqb·suc-suc (length fs) m) (go (eqb (length fs) m) (n
     go false (Value v) x = refl
     go false Bad x = refl
 
-abbrev pub then-due : (m : ℕ) → (s : List ℕ) → Found → Numbers
+abbrev then-due : (m : ℕ) → (s : List ℕ) → Found → Numbers
 then-due m s (Number v end) = prefixed (v ∷ []) (due m (drop end s))
 then-due m s Nothing = malformed
 
-parts-due : (m : ℕ) (s : List ℕ) (at : ℕ) → counted (suc m) (parted 9 (drop at s)) ≡ then-due m s (numberAt s at)
+parts-due : (m : ℕ) (s : List ℕ) (at : ℕ) → counted (suc m) (parted tab (drop at s)) ≡ then-due m s (numberAt s at)
 parts-due m s at =
     let r = drop at s in
     ap (counted (suc m)) (part-first r)
-    ∙ counted-more m (before 9 r) (following (drop (length (before 9 r)) r))
-    ∙ ap (before-rest (numberOf (before 9 r))) (follows-due m r ∙ ap (due m) (drop-drop (length (before 9 r)) at s))
-    ∙ go (numberOf (before 9 r))
+    ∙ counted-more m (before tab r) (following (drop (length (before tab r)) r))
+    ∙ ap (before-rest (numberOf (before tab r))) (follows-due m r ∙ ap (due m) (drop-drop (length (before tab r)) at s))
+    ∙ go (numberOf (before tab r))
   where
     go : (p : Parsed)
-        → before-rest p (due m (drop (at + length (before 9 (drop at s))) s)) ≡ then-due m s (upTo (at + length (before 9 (drop at s))) p)
+        → before-rest p (due m (drop (at + length (before tab (drop at s))) s)) ≡ then-due m s (upTo (at + length (before tab (drop at s))) p)
     go (Value v) = refl
     go Bad = refl
 
-pub due-more : (m : ℕ) (s : List ℕ) (at : ℕ) → at ≤ length s → due (suc m) (drop at s) ≡ then-due m s (fieldAt s at)
+due-more : (m : ℕ) (s : List ℕ) (at : ℕ) → at ≤ length s → due (suc m) (drop at s) ≡ then-due m s (fieldAt s at)
 due-more m s at h = go (ltb at (length s)) refl
   where
-    tab : (t : Bool) → cond t (counted (suc m) (parted 9 (drop (at + 1) s))) malformed ≡ then-due m s (cond t (numberAt s (at + 1)) Nothing)
-    tab true = parts-due m s (at + 1)
-    tab false = refl
+    at-tab : (t : Bool) → cond t (counted (suc m) (parted tab (drop (at + 1) s))) malformed ≡ then-due m s (cond t (numberAt s (at + 1)) Nothing)
+    at-tab true = parts-due m s (at + 1)
+    at-tab false = refl
 
     go : (t : Bool) → ltb at (length s) ≡ t
-        → due (suc m) (drop at s) ≡ then-due m s (cond (t && eqb (getD s at 0) 9) (numberAt s (at + 1)) Nothing)
-    go true e = rw (next-byte s at (ltb-true at (length s) e)) (tab (eqb (getD s at 0) 9))
+        → due (suc m) (drop at s) ≡ then-due m s (cond (t && eqb (getD s at 0) tab) (numberAt s (at + 1)) Nothing)
+    go true e = rw (next-byte s at (ltb-true at (length s) e)) (at-tab (eqb (getD s at 0) tab))
     go false e = rw (none-left s at (omega (arith, ltb-false at (length s) e)), eqb·zero-suc m)
 
 -- where no field is due, the line ends
-pub due-end : (s : List ℕ) (at : ℕ) → at ≤ length s → due 0 (drop at s) ≡ filled (eqb at (length s)) []
+due-end : (s : List ℕ) (at : ℕ) → at ≤ length s → due 0 (drop at s) ≡ filled (eqb at (length s)) []
 due-end s at h = go (eqb at (length s)) refl
   where
     go : (t : Bool) → eqb at (length s) ≡ t → due 0 (drop at s) ≡ filled t []
@@ -112,24 +113,24 @@ due-end s at h = go (eqb at (length s)) refl
     go false e =
         let n : at ≡ length s → ⊥ = eqb-false at (length s) e in
         let l : at < length s = omega arith in
-        rw (next-byte s at l, part-first (drop (at + 1) s), eqb·suc-zero) (cond-same (eqb (getD s at 0) 9) malformed)
+        rw (next-byte s at l, part-first (drop (at + 1) s), eqb·suc-zero) (cond-same (eqb (getD s at 0) tab) malformed)
 
 -- a line is its start, and then the fields that are due
-onto-letter : (letter n b : ℕ) (bs : List ℕ) → headed letter n (onto b (parted 9 bs)) ≡ cond (eqb b letter) (due n bs) malformed
+onto-letter : (letter n b : ℕ) (bs : List ℕ) → headed letter n (onto b (parted tab bs)) ≡ cond (eqb b letter) (due n bs) malformed
 onto-letter letter n b [] = refl
-onto-letter letter n b (d ∷ ds) = go (eqb d 9)
+onto-letter letter n b (d ∷ ds) = go (eqb d tab)
   where
-    go : (t : Bool) → headed letter n (onto b (cond t ([] ∷ parted 9 ds) (onto d (parted 9 ds))))
-        ≡ cond (eqb b letter) (cond t (counted n (parted 9 ds)) malformed) malformed
+    go : (t : Bool) → headed letter n (onto b (cond t ([] ∷ parted tab ds) (onto d (parted tab ds))))
+        ≡ cond (eqb b letter) (cond t (counted n (parted tab ds)) malformed) malformed
     go true = refl
     go false = rw (part-first ds) (sym (cond-same (eqb b letter) malformed))
 
-pub line-starts : (letter n : ℕ) (s : List ℕ) → lineOf letter n s ≡ cond (starts letter s) (due n (drop 1 s)) malformed
+line-starts : (letter n : ℕ) (s : List ℕ) → lineOf letter n s ≡ cond (starts letter s) (due n (drop 1 s)) malformed
 unfolding lineOf
 line-starts letter n [] = refl
-line-starts letter n (b ∷ bs) = go (leb (suc (length bs)) 512) (eqb b 9)
+line-starts letter n (b ∷ bs) = go (leb (suc (length bs)) mostBytes) (eqb b tab)
   where
-    go : (l t : Bool) → cond l (headed letter n (cond t ([] ∷ parted 9 bs) (onto b (parted 9 bs)))) malformed
+    go : (l t : Bool) → cond l (headed letter n (cond t ([] ∷ parted tab bs) (onto b (parted tab bs)))) malformed
         ≡ cond (l && (eqb b letter && not t)) (due n bs) malformed
     go false t = refl
     go true true = rw (and-false (eqb b letter))
@@ -140,7 +141,7 @@ starts-none letter [] h = refl
 starts-none letter (b ∷ bs) h = let z : ⊥ = omega arith in absurd z
 
 pub starts-some : (letter : ℕ) (s : List ℕ) → (length s ≡ 0 → ⊥)
-    → (leb (length s) 512 && (eqb (getD s 0 0) letter && not (eqb (getD s 0 0) 9))) ≡ starts letter s
+    → (leb (length s) mostBytes && (eqb (getD s 0 0) letter && not (eqb (getD s 0 0) tab))) ≡ starts letter s
 starts-some letter [] h = absurd (h refl)
 starts-some letter (b ∷ bs) h = refl
 
@@ -149,11 +150,11 @@ starts-length letter [] e = let z : _≡_ {A = ℕ} 0 1 = cc in omega arith
 starts-length letter (b ∷ bs) e = omega arith
 
 -- a field ends within the line
-pub field-within : (s : List ℕ) (at v end : ℕ) → fieldAt s at ≡ Number v end → at ≤ length s → end ≤ length s
-field-within s at v end e h = go (ltb at (length s)) refl (eqb (getD s at 0) 9) e
+field-within : (s : List ℕ) (at v end : ℕ) → fieldAt s at ≡ Number v end → at ≤ length s → end ≤ length s
+field-within s at v end e h = go (ltb at (length s)) refl (eqb (getD s at 0) tab) e
   where
     go : (t : Bool) → ltb at (length s) ≡ t → (u : Bool) → cond (t && u) (numberAt s (at + 1)) Nothing ≡ Number v end → end ≤ length s
-    go true q true e = found-within (numberOf (before 9 (drop (at + 1) s))) s (at + 1) v end e (omega (arith, ltb-true at (length s) q)) .1
+    go true q true e = found-within (numberOf (before tab (drop (at + 1) s))) s (at + 1) v end e (omega (arith, ltb-true at (length s) q)) .1
     go true q false e = let z : _≡_ {A = ℕ} 0 1 = cc in omega arith
     go false q u e = let z : _≡_ {A = ℕ} 0 1 = cc in omega arith
 
@@ -249,10 +250,10 @@ counted-length n fs = go (eqb (length fs) n) refl
 
 due-length : (n : ℕ) (s : List ℕ) → length (wordsOf n (due n s)) ≡ n
 due-length n [] = counted-length n []
-due-length n (b ∷ bs) = go (eqb b 9)
+due-length n (b ∷ bs) = go (eqb b tab)
   where
-    go : (t : Bool) → length (wordsOf n (cond t (counted n (parted 9 bs)) malformed)) ≡ n
-    go true = counted-length n (parted 9 bs)
+    go : (t : Bool) → length (wordsOf n (cond t (counted n (parted tab bs)) malformed)) ≡ n
+    go true = counted-length n (parted tab bs)
     go false = length-replicate n 0
 
 pub words-length : (letter n : ℕ) (s : List ℕ) → length (wordsOf n (lineOf letter n s)) ≡ n

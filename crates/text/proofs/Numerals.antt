@@ -9,9 +9,10 @@ use native.Mathlib.Omega.{arith}
 use lib.Dec.{eqb, ltb}
 use lib.ListN.{length, drop, getD, length-drop}
 use lib.Seq.{drop-cons, drop-length, getD-drop}
-use borrow.Author.Tests.{le-leb, lt-leb, lt-ltb, le-ltb, eq-eqb, ne-eqb, eqb-true, ltb-true, ltb-false}
-use Rattle.text.specs.declared.Parsed.{Parsed}
-use Rattle.text.specs.declared.Parsed.the-variants.{Value, Bad}
+use borrow.Author.Tests.{le-leb, lt-leb, lt-ltb, le-ltb, eq-eqb, ne-eqb}
+use Rattle.text.specs.Bytes.{tab, digit0, digit9}
+use Rattle.text.specs.declared.numeral.Parsed.{Parsed}
+use Rattle.text.specs.declared.numeral.Parsed.the-variants.{Value, Bad}
 use Rattle.text.specs.declared.numeral.Found.{Found}
 use Rattle.text.specs.declared.numeral.Found.the-variants.{Number, Nothing}
 use Rattle.text.specs.Numbers.{isDigit, digitsFrom, numberOf}
@@ -30,18 +31,18 @@ none-left s i e = rw e (drop-length s)
 
 -- what `with_digit` leaves
 module _ (v b : ℕ) where
-  pub digit-low : b < 48 → Bad ≡ digitsFrom v (b ∷ [])
-  digit-low h = rw (lt-leb 48 b h)
+  pub digit-low : b < digit0 → Bad ≡ digitsFrom v (b ∷ [])
+  digit-low h = rw (lt-leb digit0 b h)
 
-  pub digit-high : 57 < b → Bad ≡ digitsFrom v (b ∷ [])
-  digit-high h = rw (le-leb 48 b (omega arith), lt-leb b 57 h)
+  pub digit-high : digit9 < b → Bad ≡ digitsFrom v (b ∷ [])
+  digit-high h = rw (le-leb digit0 b (omega arith), lt-leb b digit9 h)
 
-  module _ (low : 48 ≤ b) (high : b ≤ 57) where
-    pub digit-over : 2 ^ 64 ≤ 10 * v + (b - 48) → Bad ≡ digitsFrom v (b ∷ [])
-    digit-over h = rw (le-leb 48 b low, le-leb b 57 high, le-ltb (10 * v + (b - 48)) (2 ^ 64) h)
+  module _ (low : digit0 ≤ b) (high : b ≤ digit9) where
+    pub digit-over : 2 ^ 64 ≤ 10 * v + (b - digit0) → Bad ≡ digitsFrom v (b ∷ [])
+    digit-over h = rw (le-leb digit0 b low, le-leb b digit9 high, le-ltb (10 * v + (b - digit0)) (2 ^ 64) h)
 
-    pub digit-more : 10 * v + (b - 48) < 2 ^ 64 → Value (10 * v + (b - 48)) ≡ digitsFrom v (b ∷ [])
-    digit-more h = rw (le-leb 48 b low, le-leb b 57 high, lt-ltb (10 * v + (b - 48)) (2 ^ 64) h)
+    pub digit-more : 10 * v + (b - digit0) < 2 ^ 64 → Value (10 * v + (b - digit0)) ≡ digitsFrom v (b ∷ [])
+    digit-more h = rw (le-leb digit0 b low, le-leb b digit9 high, lt-ltb (10 * v + (b - digit0)) (2 ^ 64) h)
 
 -- the digits that follow go on from the number so far
 abbrev onward : Parsed → List ℕ → Parsed
@@ -49,33 +50,33 @@ onward (Value v) bs = digitsFrom v bs
 onward Bad bs = Bad
 
 digits-onward : (v b : ℕ) (bs : List ℕ) → digitsFrom v (b ∷ bs) ≡ onward (digitsFrom v (b ∷ [])) bs
-digits-onward v b bs = go (isDigit b && ltb (10 * v + (b - 48)) (2 ^ 64))
+digits-onward v b bs = go (isDigit b && ltb (10 * v + (b - digit0)) (2 ^ 64))
   where
     go : (t : Bool)
-        → cond t (digitsFrom (10 * v + (b - 48)) bs) Bad ≡ onward (cond t (Value (10 * v + (b - 48))) Bad) bs
+        → cond t (digitsFrom (10 * v + (b - digit0)) bs) Bad ≡ onward (cond t (Value (10 * v + (b - digit0))) Bad) bs
     go true = refl
     go false = refl
 
-tab-no-digit : (v b w : ℕ) → digitsFrom v (b ∷ []) ≡ Value w → b ≡ 9 → ⊥
+tab-no-digit : (v b w : ℕ) → digitsFrom v (b ∷ []) ≡ Value w → b ≡ tab → ⊥
 tab-no-digit v b w e q =
     let bad : digitsFrom v (b ∷ []) ≡ Bad = rw q in
     let z : _≡_ {A = ℕ} 0 1 = cc in
     omega arith
 
-before-length : (s : List ℕ) → length (before 9 s) ≤ length s
+before-length : (s : List ℕ) → length (before tab s) ≤ length s
 before-length [] = omega arith
-before-length (b ∷ bs) = go (eqb b 9) (before-length bs)
+before-length (b ∷ bs) = go (eqb b tab) (before-length bs)
   where
-    go : (t : Bool) → length (before 9 bs) ≤ length bs → length (cond t [] (b ∷ before 9 bs)) ≤ suc (length bs)
+    go : (t : Bool) → length (before tab bs) ≤ length bs → length (cond t [] (b ∷ before tab bs)) ≤ suc (length bs)
     go true e = omega arith
     go false e = omega arith
 
 -- what was found ends within the text
-pub found-within : (p : Parsed) (s : List ℕ) (at v end : ℕ) → upTo (at + length (before 9 (drop at s))) p ≡ Number v end → at ≤ length s
+pub found-within : (p : Parsed) (s : List ℕ) (at v end : ℕ) → upTo (at + length (before tab (drop at s))) p ≡ Number v end → at ≤ length s
     → (at ≤ end) × (end ≤ length s)
 found-within (Value w) s at v end e h =
-    let l : end ≡ at + length (before 9 (drop at s)) = cc in
-    let k : length (before 9 (drop at s)) ≤ length s - at = rw (length-drop at s) at (before-length (drop at s)) in
+    let l : end ≡ at + length (before tab (drop at s)) = cc in
+    let k : length (before tab (drop at s)) ≤ length s - at = rw (length-drop at s) at (before-length (drop at s)) in
     (omega arith, omega arith)
 found-within Bad s at v end e h = let z : _≡_ {A = ℕ} 0 1 = cc in let no-way : ⊥ = omega arith in absurd no-way
 
@@ -85,26 +86,26 @@ module _ (v : ℕ) (s : List ℕ) (at : ℕ) where
   digits-end e = rw (none-left s at e, add-zero)
 
   module _ (h : at < length s) where
-    pub digits-tab : getD s at 0 ≡ 9 → digitsAt v s at ≡ Number v at
-    digits-tab e = rw (next-byte s at h, eq-eqb (getD s at 0) 9 e, add-zero)
+    pub digits-tab : getD s at 0 ≡ tab → digitsAt v s at ≡ Number v at
+    digits-tab e = rw (next-byte s at h, eq-eqb (getD s at 0) tab e, add-zero)
 
-    pub digits-stop : (getD s at 0 ≡ 9 → ⊥) → digitsFrom v (getD s at 0 ∷ []) ≡ Bad → digitsAt v s at ≡ Nothing
+    pub digits-stop : (getD s at 0 ≡ tab → ⊥) → digitsFrom v (getD s at 0 ∷ []) ≡ Bad → digitsAt v s at ≡ Nothing
     digits-stop n e =
         let r = drop (at + 1) s in
-        rw (next-byte s at h, ne-eqb (getD s at 0) 9 n)
-        (ap (upTo _) (digits-onward v (getD s at 0) (before 9 r) ∙ ap (λ p. onward p (before 9 r)) e))
+        rw (next-byte s at h, ne-eqb (getD s at 0) tab n)
+        (ap (upTo _) (digits-onward v (getD s at 0) (before tab r) ∙ ap (λ p. onward p (before tab r)) e))
 
     pub digits-more : (w : ℕ) → digitsFrom v (getD s at 0 ∷ []) ≡ Value w → digitsAt v s at ≡ digitsAt w s (at + 1)
     digits-more w e =
         let r = drop (at + 1) s in
-        let l : at + suc (length (before 9 r)) ≡ at + 1 + length (before 9 r) = omega arith in
-        rw (next-byte s at h, ne-eqb (getD s at 0) 9 (tab-no-digit v (getD s at 0) w e))
-        (ap (upTo _) (digits-onward v (getD s at 0) (before 9 r) ∙ ap (λ p. onward p (before 9 r)) e)
-        ∙ ap (λ k. upTo k (digitsFrom w (before 9 r))) l)
+        let l : at + suc (length (before tab r)) ≡ at + 1 + length (before tab r) = omega arith in
+        rw (next-byte s at h, ne-eqb (getD s at 0) tab (tab-no-digit v (getD s at 0) w e))
+        (ap (upTo _) (digits-onward v (getD s at 0) (before tab r) ∙ ap (λ p. onward p (before tab r)) e)
+        ∙ ap (λ k. upTo k (digitsFrom w (before tab r))) l)
 
 -- digits from a place on make a number where there are some, and no zero leads others
 abbrev judged : (first at : ℕ) → Found → Found
-judged first at (Number v end) = cond (eqb end at) Nothing (cond (eqb first 48 && ltb (at + 1) end) Nothing (Number v end))
+judged first at (Number v end) = cond (eqb end at) Nothing (cond (eqb first digit0 && ltb (at + 1) end) Nothing (Number v end))
 judged first at Nothing = Nothing
 
 judge-empty : (x at : ℕ) → Nothing ≡ judged x at (Number 0 (at + 0))
@@ -112,21 +113,21 @@ judge-empty x at = rw (add-zero at, eq-eqb at at refl)
 
 judge-one : (x at : ℕ) (p : Parsed) → upTo (at + 1) p ≡ judged x at (upTo (at + 1) p)
 judge-one x at Bad = refl
-judge-one x at (Value v) = rw (ne-eqb (at + 1) at (λ e. omega arith), le-ltb (at + 1) (at + 1) (omega arith), and-false (eqb x 48))
+judge-one x at (Value v) = rw (ne-eqb (at + 1) at (λ e. omega arith), le-ltb (at + 1) (at + 1) (omega arith), and-false (eqb x digit0))
 
-judge-more : (x at end : ℕ) (p : Parsed) → at + 1 < end → upTo end (cond (eqb x 48) Bad p) ≡ judged x at (upTo end p)
-judge-more x at end Bad h = ap (upTo end) (cond-same (eqb x 48) Bad)
-judge-more x at end (Value v) h = rw (ne-eqb end at (λ e. omega arith), lt-ltb (at + 1) end h, and-true (eqb x 48)) (go (eqb x 48))
+judge-more : (x at end : ℕ) (p : Parsed) → at + 1 < end → upTo end (cond (eqb x digit0) Bad p) ≡ judged x at (upTo end p)
+judge-more x at end Bad h = ap (upTo end) (cond-same (eqb x digit0) Bad)
+judge-more x at end (Value v) h = rw (ne-eqb end at (λ e. omega arith), lt-ltb (at + 1) end h, and-true (eqb x digit0)) (go (eqb x digit0))
   where
     go : (t : Bool) → upTo end (cond t Bad (Value v)) ≡ cond t Nothing (Number v end)
     go true = refl
     go false = refl
 
 judge-part : (at : ℕ) (r : List ℕ)
-    → upTo (at + length (before 9 r)) (numberOf (before 9 r))
-    ≡ judged (getD r 0 0) at (upTo (at + length (before 9 r)) (digitsFrom 0 (before 9 r)))
+    → upTo (at + length (before tab r)) (numberOf (before tab r))
+    ≡ judged (getD r 0 0) at (upTo (at + length (before tab r)) (digitsFrom 0 (before tab r)))
 judge-part at [] = judge-empty 0 at
-judge-part at (b ∷ bs) = go (eqb b 9) (before 9 bs)
+judge-part at (b ∷ bs) = go (eqb b tab) (before tab bs)
   where
     some : (f : List ℕ) → upTo (at + suc (length f)) (numberOf (b ∷ f)) ≡ judged b at (upTo (at + suc (length f)) (digitsFrom 0 (b ∷ f)))
     some [] = judge-one b at (digitsFrom 0 (b ∷ []))
@@ -153,73 +154,14 @@ module _ (s : List ℕ) (at : ℕ) {d : Found} (e : d ≡ digitsAt 0 s at) where
     found = number-judged s at ∙ ap (judged (getD s at 0) at) (sym e ∙ told)
 
     pub digits-within : at ≤ length s → (at ≤ end) × (end ≤ length s)
-    digits-within = found-within (digitsFrom 0 (before 9 (drop at s))) s at v end (sym e ∙ told)
+    digits-within = found-within (digitsFrom 0 (before tab (drop at s))) s at v end (sym e ∙ told)
 
     pub number-empty : end ≡ at → Nothing ≡ numberAt s at
     number-empty h = sym (found ∙ rw (eq-eqb end at h))
 
     module _ (some : end ≡ at → ⊥) where
-      pub number-led : (eqb (getD s at 0) 48 && ltb (at + 1) end) ≡ true → Nothing ≡ numberAt s at
+      pub number-led : (eqb (getD s at 0) digit0 && ltb (at + 1) end) ≡ true → Nothing ≡ numberAt s at
       number-led h = sym (found ∙ rw (ne-eqb end at some, h))
 
-      pub number-found : (eqb (getD s at 0) 48 && ltb (at + 1) end) ≡ false → Number v end ≡ numberAt s at
+      pub number-found : (eqb (getD s at 0) digit0 && ltb (at + 1) end) ≡ false → Number v end ≡ numberAt s at
       number-found h = sym (found ∙ rw (ne-eqb end at some, h))
-
--- a text with a tab in it is no number; any other is what goes up to a tab
-abbrev wholly : (n : ℕ) → Found → Parsed
-wholly n (Number v end) = cond (ltb end n) Bad (Value v)
-wholly n Nothing = Bad
-
-tab-digits : (v : ℕ) (s : List ℕ) → length (before 9 s) < length s → digitsFrom v s ≡ Bad
-tab-digits v [] h = let z : ⊥ = omega arith in absurd z
-tab-digits v (b ∷ bs) h = go (eqb b 9) refl h (tab-digits (10 * v + (b - 48)) bs)
-  where
-    go : (t : Bool) → eqb b 9 ≡ t → length (cond t [] (b ∷ before 9 bs)) < suc (length bs)
-        → (length (before 9 bs) < length bs → digitsFrom (10 * v + (b - 48)) bs ≡ Bad) → digitsFrom v (b ∷ bs) ≡ Bad
-    go true e l more = rw (eqb-true b 9 e)
-    go false e l more = rw (more (omega arith)) (cond-same (isDigit b && ltb (10 * v + (b - 48)) (2 ^ 64)) Bad)
-
-tab-number : (s : List ℕ) → length (before 9 s) < length s → numberOf s ≡ Bad
-tab-number [] h = refl
-tab-number (b ∷ []) h = tab-digits 0 (b ∷ []) h
-tab-number (b ∷ c ∷ bs) h = rw (tab-digits 0 (b ∷ c ∷ bs) h) (cond-same (eqb b 48) Bad)
-
-before-all : (s : List ℕ) → length s ≤ length (before 9 s) → before 9 s ≡ s
-before-all [] h = refl
-before-all (b ∷ bs) h = go (eqb b 9) h (before-all bs)
-  where
-    go : (t : Bool) → suc (length bs) ≤ length (cond t [] (b ∷ before 9 bs))
-        → (length bs ≤ length (before 9 bs) → before 9 bs ≡ bs) → cond t [] (b ∷ before 9 bs) ≡ b ∷ bs
-    go true l more = let z : ⊥ = omega arith in absurd z
-    go false l more = ap (λ r. b ∷ r) (more (omega arith))
-
-number-wholly : (s : List ℕ) → numberOf s ≡ wholly (length s) (numberAt s 0)
-number-wholly s = go (ltb (0 + length (before 9 s)) (length s)) refl
-  where
-    cut : (p : Parsed) (n m : ℕ) → ltb m n ≡ true → wholly n (upTo m p) ≡ Bad
-    cut (Value v) n m e = rw e
-    cut Bad n m e = refl
-
-    uncut : (p : Parsed) (n m : ℕ) → ltb m n ≡ false → wholly n (upTo m p) ≡ p
-    uncut (Value v) n m e = rw e
-    uncut Bad n m e = refl
-
-    go : (t : Bool) → ltb (0 + length (before 9 s)) (length s) ≡ t → numberOf s ≡ wholly (length s) (numberAt s 0)
-    go true e =
-        let l : length (before 9 s) < length s = omega (arith, ltb-true (0 + length (before 9 s)) (length s) e) in
-        tab-number s l ∙ sym (cut (numberOf (before 9 s)) (length s) (0 + length (before 9 s)) e)
-    go false e =
-        let l : length s ≤ length (before 9 s) = omega (arith, ltb-false (0 + length (before 9 s)) (length s) e) in
-        sym (ap numberOf (before-all s l)) ∙ sym (uncut (numberOf (before 9 s)) (length s) (0 + length (before 9 s)) e)
-
--- what `number` leaves
-module _ (s : List ℕ) {d : Found} (e : d ≡ numberAt s 0) where
-  pub text-bad : d ≡ Nothing → Bad ≡ numberOf s
-  text-bad told = sym (number-wholly s ∙ ap (wholly (length s)) (sym e ∙ told))
-
-  module _ {v end : ℕ} (told : d ≡ Number v end) where
-    pub text-cut : end < length s → Bad ≡ numberOf s
-    text-cut h = sym (number-wholly s ∙ ap (wholly (length s)) (sym e ∙ told) ∙ rw (lt-ltb end (length s) h))
-
-    pub text-whole : length s ≤ end → Value v ≡ numberOf s
-    text-whole h = sym (number-wholly s ∙ ap (wholly (length s)) (sym e ∙ told) ∙ rw (le-ltb end (length s) h))

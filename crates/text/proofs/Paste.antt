@@ -18,7 +18,7 @@ put-one at b out h = record { ends = refl; bytes = rw (add-one, set-split out at
 pub pasted-length : (at : ℕ) (bs out : List ℕ) → at + length bs ≤ length out → length (pasted at bs out) ≡ length out
 pasted-length at bs out h = simp (length-append, length-take, length-drop) (omega arith)
 
-pub pasted-more : (at : ℕ) (bs cs out : List ℕ) → at + length bs ≤ length out
+pasted-more : (at : ℕ) (bs cs out : List ℕ) → at + length bs ≤ length out
     → pasted (at + length bs) cs (pasted at bs out) ≡ pasted at (bs ++ cs) out
 pasted-more at bs cs out h =
     let e : at + length bs + length cs ≡ at + length (bs ++ cs) = omega (arith, length-append bs cs) in

@@ -6,17 +6,10 @@ use denote.Ref.{now}
 use denote.Triple.Clauses.{AtExit}
 use borrow.Fn.Kinds.{Dens, resT, endedOf}
 use Rattle.text.specs.Calls.{one-line}
-use Rattle.text.proofs.number.Kinds as number
-use Rattle.text.proofs.number.Reads as number-reads
 use Rattle.text.proofs.line.Kinds as line
 use Rattle.text.proofs.line.Reads as line-reads
 use Rattle.text.proofs.put_line.Kinds as put-line
 use Rattle.text.proofs.put_line.Reads as put-line-reads
-
-pub number-once : (κs : Lfts 1) (args : Dens κs number.ps) (r₁ r₂ : resT number.r κs .Denot)
-    (x₁ x₂ : AtExit (endedOf 1 number.ps number.r) κs)
-    → number-reads.Post κs args r₁ x₁ → number-reads.Post κs args r₂ x₂ → r₁ ≡ r₂
-number-once κs args r₁ r₂ x₁ x₂ a b = a ∙ sym b
 
 -- x .1 .1 .0 is what was lent, the words or the bytes, at exit
 pub line-once : (κs : Lfts 2) (args : Dens κs line.ps) (r₁ r₂ : resT line.r κs .Denot)

@@ -5,23 +5,24 @@ use mathlib.Core.Bool.{Bool, true, false, cond, _&&_}
 use mathlib.Core.List.{List, [], _∷_}
 use lib.Dec.{eqb, leb, ltb}
 use lib.ListN.{length, replicate}
-use Rattle.text.specs.declared.Parsed.{Parsed}
-use Rattle.text.specs.declared.Parsed.the-variants.{Value, Bad}
+use Rattle.text.specs.Bytes.{tab, digit0, digit9, mostBytes}
+use Rattle.text.specs.declared.numeral.Parsed.{Parsed}
+use Rattle.text.specs.declared.numeral.Parsed.the-variants.{Value, Bad}
 use Rattle.text.specs.Parts.{parted}
 
 abbrev pub isDigit : (b : ℕ) → Bool
-isDigit b = leb 48 b && leb b 57
+isDigit b = leb digit0 b && leb b digit9
 
 -- the number that digits go on to from v, as long as it is below 2^64
 abbrev pub digitsFrom : (v : ℕ) → List ℕ → Parsed
 digitsFrom v [] = Value v
-digitsFrom v (b ∷ bs) = cond (isDigit b && ltb (10 * v + (b - 48)) (2 ^ 64)) (digitsFrom (10 * v + (b - 48)) bs) Bad
+digitsFrom v (b ∷ bs) = cond (isDigit b && ltb (10 * v + (b - digit0)) (2 ^ 64)) (digitsFrom (10 * v + (b - digit0)) bs) Bad
 
 -- decimal, no leading zeros but 0, below 2^64
 abbrev pub numberOf : List ℕ → Parsed
 numberOf [] = Bad
 numberOf (b ∷ []) = digitsFrom 0 (b ∷ [])
-numberOf (b ∷ c ∷ bs) = cond (eqb b 48) Bad (digitsFrom 0 (b ∷ c ∷ bs))
+numberOf (b ∷ c ∷ bs) = cond (eqb b digit0) Bad (digitsFrom 0 (b ∷ c ∷ bs))
 
 -- what a line holds
 pub data Numbers : Type 0 where
@@ -54,7 +55,7 @@ headed letter n (f ∷ fs) = cond (lettered letter f) (counted n fs) malformed
 
 -- a line that is due: at most 512 bytes, the letter, and n numbers, parted by tabs
 unfoldable pub lineOf : (letter n : ℕ) → (line : List ℕ) → Numbers
-lineOf letter n line = cond (leb (length line) 512) (headed letter n (parted 9 line)) malformed
+lineOf letter n line = cond (leb (length line) mostBytes) (headed letter n (parted tab line)) malformed
 
 abbrev pub isWell : Numbers → Bool
 isWell (values ws) = true

@@ -4,8 +4,9 @@ use mathlib.Core.Bool.{Bool, true, false, cond, not, _&&_}
 use mathlib.Core.List.{List, [], _∷_}
 use lib.Dec.{eqb, leb, ltb}
 use lib.ListN.{length, drop, getD}
-use Rattle.text.specs.declared.Parsed.{Parsed}
-use Rattle.text.specs.declared.Parsed.the-variants.{Value, Bad}
+use Rattle.text.specs.Bytes.{tab, mostBytes}
+use Rattle.text.specs.declared.numeral.Parsed.{Parsed}
+use Rattle.text.specs.declared.numeral.Parsed.the-variants.{Value, Bad}
 use Rattle.text.specs.declared.numeral.Found.{Found}
 use Rattle.text.specs.declared.numeral.Found.the-variants.{Number, Nothing}
 use Rattle.text.specs.Parts.{parted}
@@ -23,25 +24,25 @@ upTo end Bad = Nothing
 
 -- digits that go on from v at a place, as far as a tab
 abbrev pub digitsAt : (v : ℕ) → (s : List ℕ) → (at : ℕ) → Found
-digitsAt v s at = upTo (at + length (before 9 (drop at s))) (digitsFrom v (before 9 (drop at s)))
+digitsAt v s at = upTo (at + length (before tab (drop at s))) (digitsFrom v (before tab (drop at s)))
 
 -- the number that starts at a place, as far as a tab
 abbrev pub numberAt : (s : List ℕ) → (at : ℕ) → Found
-numberAt s at = upTo (at + length (before 9 (drop at s))) (numberOf (before 9 (drop at s)))
+numberAt s at = upTo (at + length (before tab (drop at s))) (numberOf (before tab (drop at s)))
 
 -- the number after a tab that stands at a place
 abbrev pub fieldAt : (s : List ℕ) → (at : ℕ) → Found
-fieldAt s at = cond (ltb at (length s) && eqb (getD s at 0) 9) (numberAt s (at + 1)) Nothing
+fieldAt s at = cond (ltb at (length s) && eqb (getD s at 0) tab) (numberAt s (at + 1)) Nothing
 
 -- a line that is not too long starts with the letter, which is no tab
 abbrev pub starts : (letter : ℕ) → (line : List ℕ) → Bool
 starts letter [] = false
-starts letter (b ∷ bs) = leb (length (b ∷ bs)) 512 && (eqb b letter && not (eqb b 9))
+starts letter (b ∷ bs) = leb (length (b ∷ bs)) mostBytes && (eqb b letter && not (eqb b tab))
 
 -- m fields that are due, each after a tab
 abbrev pub due : (m : ℕ) → (rest : List ℕ) → Numbers
 due m [] = counted m []
-due m (b ∷ bs) = cond (eqb b 9) (counted m (parted 9 bs)) malformed
+due m (b ∷ bs) = cond (eqb b tab) (counted m (parted tab bs)) malformed
 
 -- what the answer and the words say
 abbrev pub filled : Bool → (words : List ℕ) → Numbers

@@ -1,9 +1,10 @@
 // The fields of a line, read from left to right.
 ghost use mathlib.Core.Path.{_≡_};
 ghost use Prim.Native.Nat.{_≤_};
-ghost use lib.ListN.{length, replicate};
+ghost use lib.ListN.{length};
 ghost use Rattle.text.specs.Numbers.{lineOf};
 ghost use Rattle.text.specs.Within.{fieldAt, starts, filled};
+use crate::ascii::TAB;
 use crate::numeral::Found;
 use crate::numeral::number_at;
 
@@ -15,11 +16,14 @@ fn field_at(s: &[u8], at: usize) -> Found
     if at == s.len() {
         return Found::Nothing;
     }
-    if s[at] != 9 {
+    if s[at] != TAB {
         return Found::Nothing;
     }
     number_at(s, at + 1)
 }
+
+// Bytes in a line, at most.
+const MOST_BYTES: usize = 512;
 
 // Whether a line is short enough and starts with its letter. A tab is no letter: it ends a field.
 fn starts(s: &[u8], letter: u8) -> bool
@@ -29,7 +33,7 @@ fn starts(s: &[u8], letter: u8) -> bool
         return false;
     }
     let first = s[0];
-    (s.len() <= 512) & ((first == letter) & (first != 9))
+    (s.len() <= MOST_BYTES) & ((first == letter) & (first != TAB))
 }
 
 // Fills `into` with the numbers of a line, and answers whether it was right. Where it was not, some of `into` may be filled.
@@ -48,12 +52,4 @@ pub fn filled(s: &[u8], letter: u8, into: &mut [u64]) -> bool
         at = end;
     }
     at == s.len()
-}
-
-pub fn zero(words: &mut [u64])
-    ensures { λ _. ⌜ now (words .exit) ≡ replicate (length (now (words .entry))) 0 ⌝ }
-{
-    for i in 0..words.len() {
-        words[i] = 0;
-    }
 }

@@ -1,34 +1,11 @@
 // Lines of numbers as bytes: read and printed. Every call takes whatever it is given.
-ghost use mathlib.Core.Path.{_≡_};
-ghost use Rattle.text.specs.Numbers.{numberOf};
 ghost use Rattle.text.specs.Printed.{lineWithin, Put};
 ghost use Rattle.text.specs.Calls.{Taken};
 
+mod ascii;
 mod fields;
 mod numeral;
 mod print;
-
-use numeral::Found;
-
-// A field as a number.
-pub enum Parsed {
-    Value(u64),
-    Bad,
-}
-
-// A decimal number: no leading zeros but 0, below 2^64.
-pub fn number(s: &[u8]) -> Parsed
-    ensures { λ r. ⌜ r ≡ numberOf (now (s .entry)) ⌝ }
-{
-    let Found::Number(v, end) = numeral::number_at(s, 0) else {
-        return Parsed::Bad;
-    };
-    // A number ends at a tab, and no tab may stand in the text.
-    if end < s.len() {
-        return Parsed::Bad;
-    }
-    Parsed::Value(v)
-}
 
 // Fills `into` with the numbers of a line, and answers whether the line is the letter and as many numbers. `into` is zeros where it
 // is not.
@@ -38,9 +15,12 @@ pub fn line(s: &[u8], letter: u8, into: &mut [u64]) -> bool
     if fields::filled(s, letter, into) {
         return true;
     }
-    fields::zero(into);
+    lent::zero(into);
     false
 }
+
+// Room for a printed field: a tab and 20 digits.
+const FIELD_ROOM: usize = 21;
 
 // Prints a line from `at` on: a letter, each number after a tab, and a newline. Answers where it ends. Where there is no room for it,
 // nothing is printed.
@@ -50,7 +30,7 @@ pub fn put_line(letter: u8, numbers: &[u64], out: &mut [u8], at: usize) -> usize
     if out.len() < at {
         return at;
     }
-    if (out.len() - at) / 21 <= numbers.len() {
+    if (out.len() - at) / FIELD_ROOM <= numbers.len() {
         return at;
     }
     print::line(letter, numbers, out, at)

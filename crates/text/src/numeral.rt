@@ -5,7 +5,15 @@ ghost use Prim.Native.Nat.{_≤_};
 ghost use lib.ListN.{length};
 ghost use Rattle.text.specs.Numbers.{digitsFrom};
 ghost use Rattle.text.specs.Within.{digitsAt, numberAt};
-use crate::Parsed;
+use crate::ascii::DIGIT_0;
+use crate::ascii::DIGIT_9;
+use crate::ascii::TAB;
+
+// A field as a number.
+pub enum Parsed {
+    Value(u64),
+    Bad,
+}
 
 // A number and the place after it.
 pub enum Found {
@@ -13,22 +21,24 @@ pub enum Found {
     Nothing,
 }
 
+// Ten times a number up to this one is below 2^64.
+const MOST_TENTH: u64 = u64::MAX / 10;
+
 // The number that one digit more makes.
 fn with_digit(v: u64, b: u8) -> Parsed
     ensures { λ r. ⌜ r ≡ digitsFrom v (b ∷ []) ⌝ }
 {
-    if b < 48 {
+    if b < DIGIT_0 {
         return Parsed::Bad;
     }
-    if 57 < b {
+    if DIGIT_9 < b {
         return Parsed::Bad;
     }
-    let digit = (b - 48) as u64;
-    // Ten times a number up to this one is below 2^64.
-    if 1844674407370955161 < v {
+    let digit = (b - DIGIT_0) as u64;
+    if MOST_TENTH < v {
         return Parsed::Bad;
     }
-    if 18446744073709551615 - 10 * v < digit {
+    if u64::MAX - 10 * v < digit {
         return Parsed::Bad;
     }
     Parsed::Value(10 * v + digit)
@@ -45,7 +55,7 @@ fn digits(s: &[u8], at: usize) -> Found
         let b = s[end];
         let Parsed::Value(more) = with_digit(v, b) else {
             // Only a digit goes on, so the tab is looked for last.
-            if b == 9 {
+            if b == TAB {
                 return Found::Number(v, end);
             }
             return Found::Nothing;
@@ -68,7 +78,7 @@ pub fn number_at(s: &[u8], at: usize) -> Found
         return Found::Nothing;
     }
     // A leading zero is let in where it is the number.
-    if (s[at] == 48) & (at + 1 < end) {
+    if (s[at] == DIGIT_0) & (at + 1 < end) {
         return Found::Nothing;
     }
     Found::Number(v, end)

@@ -11,6 +11,7 @@ use lib.Pow.{pow-pos, pow-mono, pow-add, shr-shr}
 use lib.IntN.{pos, negℤ, _+ℤ_, _-ℤ_, +ℤ-assoc, +ℤ-comm}
 use Rattle.word.specs.Word.{word}
 use Rattle.word.proofs.Integers.{minus, same-mod, modulo-sub}
+use Rattle.word.proofs.Wrapped.{difference-wraps}
 use Rattle.unit.specs.Unit.{ones, arithmetic, lanes, laneWidth, laneCount, logicRows, unitResult, splitResult}
 use Rattle.unit.proofs.Laws.{cond-lt, arithmetic-lt, unit-lt}
 
@@ -38,6 +39,16 @@ module _ (width : ℕ) where
   less : (r a b p q : ℕ) → r < 2 ^ width → r + b + p * 2 ^ width ≡ a + q * 2 ^ width → r ≡ word width (pos a -ℤ pos b)
   less r a b p q h e =
       sym (mod-eq-of-lt h) ∙ modulo-sub (2 ^ width) (pow-pos width) a b r p q e ∙ ap (word width) (sym (minus a b))
+
+  -- a difference from all ones that has wrapped at v bits is, in the lane, the complement
+  pub complement-wraps : (v r n : ℕ) → width ≤ v → n < 2 ^ v → (r + n) % 2 ^ v ≡ ones width → low r ≡ ones width - low n
+  complement-wraps v r n h l e =
+      difference-wraps (v - width) width r (ones width) n
+      (subst
+      (λ (k : ℕ). (r + n % 2 ^ k) % 2 ^ k ≡ ones width % 2 ^ k)
+      (omega arith)
+      (ap (λ (m : ℕ). (r + m) % 2 ^ v) (mod-eq-of-lt l) ∙ e ∙ sym (mod-eq-of-lt (omega (arith, pow-pos width, pow-mono {i = width} h)))))
+      ∙ sym (less (ones width - low n) (ones width) n 0 (above n) (omega (arith, low-lt n)) (omega (arith, parted n, low-lt n)))
 
   -- ---- the rule as the code works it: bit 0 of the mode complements Z, and bit 1 the sum
 

@@ -9,7 +9,7 @@ use lib.Dec.{ltb, eqb, lit<}
 use lib.Pow.{pow-pos, ones-sub-lt}
 use lib.Bits.{bitAnd, bitOr, bitXor, and-lt, or-lt, xor-lt}
 use lib.IntN.{pos, _+ℤ_, _-ℤ_, _*ℤ_}
-use Rattle.word.specs.Word.{extend, signed}
+use Rattle.word.specs.Word.{signed}
 use Rattle.word.proofs.Laws.{word-lt}
 use Rattle.unit.specs.Choice.{mux, choose}
 use Rattle.unit.specs.Unit.{ones, arithmetic, byY, compl, logicRows, unitResult, preAdder, product, load}
@@ -98,9 +98,6 @@ pre-adder-lt subtract d a = mux-lt subtract (word-lt 27 (pos (d + a))) (word-lt 
 pub product-lt : (left right : ℕ) → product left right < 2 ^ 45
 unfolding product
 product-lt left right = word-lt 45 (signed 27 left *ℤ signed 18 right)
-
-pub extend48-lt : (m : ℕ) → extend 45 48 m < 2 ^ 48
-extend48-lt m = word-lt 48 (signed 45 m)
 
 pub load-lt : (reset enable : ℕ) {N word input : ℕ} → 0 < N → word < N → input < N → load reset enable word input < N
 unfolding load

@@ -2,8 +2,6 @@
 -- rattle reads it from the source) are equal. Assumes nothing.
 use mathlib.Core.Path.{sym, _∙_}
 use Rattle.word.proofs.Unique.{Once}
-use Rattle.unit.proofs.result.Kinds as result-kinds
-use Rattle.unit.proofs.result.Reads as result-reads
 use Rattle.unit.proofs.split_result.Kinds as split-result-kinds
 use Rattle.unit.proofs.split_result.Reads as split-result-reads
 use Rattle.unit.proofs.pre_adder.Kinds as pre-adder-kinds
@@ -18,9 +16,6 @@ use Rattle.unit.proofs.load.Kinds as load-kinds
 use Rattle.unit.proofs.load.Reads as load-reads
 use Rattle.unit.proofs.adder.Kinds as adder-kinds
 use Rattle.unit.proofs.adder.Reads as adder-reads
-
-pub result-once : Once result-kinds.ps result-kinds.r result-reads.Post
-result-once _ _ _ _ _ _ a b = a ∙ sym b
 
 pub split-result-once : Once split-result-kinds.ps split-result-kinds.r split-result-reads.Post
 split-result-once _ _ _ _ _ _ a b = a ∙ sym b

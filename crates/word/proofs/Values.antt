@@ -1,39 +1,31 @@
--- Values that pin the definitions, by computation. Assumes nothing.
-use Prim.Native.Nat.{_+_, _%_, _^_}
+-- Values that pin the definitions, by computation. 01's twelve cases and its slips stand together in `packed`, `Cases`. Assumes nothing.
+use Prim.Native.Nat.{_+_, _-_, _^_}
 use mathlib.Core.Path.{_≡_, refl}
 use lib.IntN.{pos, negsuc}
-use lib.Signed.{shrZ}
 use Rattle.word.specs.Word.{word, signed, extend, shifted, lowSum, highSum}
 
 pub record Values : Type 0 where
-  -- 01, case 7
-  pub shift-keeps-sign : shifted 48 17 (2 ^ 47) ≡ 281473902968832
-  -- 01, case 8: 67108864 of 27 bits is read as -67108864
-  pub lowest-of-27 : signed 27 67108864 ≡ negsuc 67108863
+  -- the last word of 18 bits is -1, and what is above the width is not read
   pub ones-of-18 : signed 18 262143 ≡ negsuc 0
-  -- what is above the width is not read
   pub low-bits-alone : signed 18 (2 ^ 18 + 1) ≡ pos 1
+  -- a word is its integer modulo 2^w
+  pub words : (word 4 (pos 5) ≡ 5) × (word 4 (pos 21) ≡ 5) × (word 4 (negsuc 4) ≡ 11)
   -- the lowest product of 45 bits, -2^44, in 48 bits
   pub lowest-extended : extend 45 48 (2 ^ 44) ≡ 263882790666240
-  -- 01, case 11: P 262143 is high 1, low -1; bit 17 makes the high sum 1 where the quotient is 0
-  pub high-of-262143 : highSum 262143 ≡ pos 1
-  pub quotient-of-262143 : shrZ (signed 48 262143) (2 ^ 18) ≡ pos 0
-  pub low-of-262143 : lowSum 262143 ≡ negsuc 0
-  -- 01, slips: -5 ends in 1011
-  pub minus-five : word 48 (negsuc 4) ≡ 281474976710651
-  pub minus-five-ends : word 48 (negsuc 4) % 2 ^ 4 ≡ 11
+  pub shifted-by-17 : (shifted 48 17 (2 ^ 17) ≡ 1) × (shifted 48 17 (2 ^ 17 - 1) ≡ 0)
+  -- bit 17 is the low sum's sign
+  pub low-sums : (lowSum 131071 ≡ pos 131071) × (lowSum 131072 ≡ negsuc 131071)
+  -- P -2^18 is high -1; P -1 is high 0, since bit 17 is set
+  pub high-sums : (highSum (2 ^ 48 - 2 ^ 18) ≡ negsuc 0) × (highSum (2 ^ 48 - 1) ≡ pos 0)
 
 pub values : Values
 values =
     record {
-      shift-keeps-sign = refl;
-      lowest-of-27 = refl;
       ones-of-18 = refl;
       low-bits-alone = refl;
+      words = (refl, refl, refl);
       lowest-extended = refl;
-      high-of-262143 = refl;
-      quotient-of-262143 = refl;
-      low-of-262143 = refl;
-      minus-five = refl;
-      minus-five-ends = refl;
+      shifted-by-17 = (refl, refl);
+      low-sums = (refl, refl);
+      high-sums = (refl, refl);
     }

@@ -1,7 +1,9 @@
 -- `column::clear` meets its contract: a refusal leaves the registers, and else each is 0. Assumes nothing.
-use mathlib.Core.Path.{_≡_, _∙_, sym, ap}
+use mathlib.Core.Path.{_∙_, sym, ap}
 use lib.ListN.{replicate}
-use Rattle.column.proofs.Answers.{unstored, cleared-length}
+use Rattle.lent.proofs.Laws.{kept}
+use Rattle.column.specs.Refusals.{numberOf}
+use Rattle.column.proofs.Answers.{refused, cleared-length}
 use borrow.Author.Needs.{needs}
 use Rattle.column.proofs.clear.Statement.{statement}
 use Rattle.column.proofs.clear.Tie as tie
@@ -9,7 +11,8 @@ use Rattle.column.proofs.clear.Tie as tie
 returns : tie.Need-returns
 returns c =
     let e = c .before .clear-answer .ensures in
-    record { answer = e; registers = rw (← e) (unstored (c .before .clear-answer .result) (c .match .keys2) _ _) }
+    let r = c .before .clear-answer .result in
+    record { answer = e; registers = rw (← e) (kept (numberOf r) (refused r (c .match .keys2)) _ _) }
 
 returns-2 : tie.Need-returns-2
 returns-2 c =

@@ -1,6 +1,8 @@
 -- `column::clock` meets its contract: a refusal leaves every word, and else every slice has its edge. Assumes nothing.
 use mathlib.Core.Path.{_∙_, sym}
-use Rattle.column.proofs.Answers.{accepted-ready, unstored}
+use Rattle.lent.proofs.Laws.{kept}
+use Rattle.column.specs.Refusals.{numberOf}
+use Rattle.column.proofs.Answers.{accepted-ready, refused}
 use borrow.Author.Needs.{needs}
 use Rattle.column.proofs.clock.Statement.{statement}
 use Rattle.column.proofs.clock.Tie as tie
@@ -8,8 +10,9 @@ use Rattle.column.proofs.clock.Tie as tie
 returns : tie.Need-returns
 returns c =
     let e = c .before .clock-answer .ensures in
-    let same = unstored (c .before .clock-answer .result) (c .match .keys2) in
-    record { answer = e; registers = rw (← e) (same _ _); outputs = rw (← e) (same _ _) }
+    let r = c .before .clock-answer .result in
+    let above = refused r (c .match .keys2) in
+    record { answer = e; registers = rw (← e) (kept (numberOf r) above _ _); outputs = rw (← e) (kept (numberOf r) above _ _) }
 
 all-edges-requires : tie.Need-all-edges-requires
 all-edges-requires c κs =

@@ -16,14 +16,19 @@ lacks-room c = no-room _ _ (c .before .if1 .left) (c .if2 .taken)
 
 lacks-line : tie.Need-returns-3
 lacks-line c =
-    no-line _ _ (c .before .before .before .before .if1 .left) (omega (arith, c .before .before .before .if2 .left)) (ap (λ (q : Player). q .lines) (sym (c .before .before .player-of .ensures)) ∙ c .if3 .taken)
+    let player = c .before .before in
+    no-line _ _ (player .before .before .if1 .left) (omega (arith, player .before .if2 .left))
+    (ap (λ (q : Player). q .lines) (sym (player .player-of .ensures)) ∙ c .if3 .taken)
 
 says : tie.Need-returns-4
 says c =
-    let player = c .before .before .before .before .before .before .before .before .player-of .ensures in
-    let lines = ap (λ (q : Player). q .lines) (sym player) in
-    ended _ _ (c .before .before .before .before .before .before .before .before .before .before .if1 .left) (omega (arith, c .before .before .before .before .before .before .before .before .before .if2 .left)) (omega (arith, lines, c .before .before .before .before .before .before .if3 .left, c .before .before .before .before .before .before .before .before .before .before .before .before .before .good)) (c .before .before .before .before .before .end-of .result)
-    (c .before .before .before .before .before .end-of .ensures ∙ ap endOf player) _ _ (c .before .before .put-event .ensures)
+    let event = c .before .before .before .before .before in
+    let player = event .before .before .before in
+    let roomy = player .before in
+    let lines = ap (λ (q : Player). q .lines) (sym (player .player-of .ensures)) in
+    ended _ _ (roomy .before .if1 .left) (omega (arith, roomy .if2 .left))
+    (omega (arith, lines, event .before .if3 .left, event .before .before .struct-known .given)) (event .end-of .result)
+    (event .end-of .ensures ∙ ap endOf (player .player-of .ensures)) _ _ (c .before .before .put-event .ensures)
 
 pub finish-spec : {M : Type 1} → statement M
 finish-spec =

@@ -4,10 +4,11 @@ use mathlib.Core.Path.{_∙_, sym, ap}
 use lib.Dec.{eqb}
 use lib.ListN.{length}
 use borrow.Author.Tests.{eqb-true}
+use Rattle.lent.proofs.Laws.{kept}
 use Rattle.packed.specs.declared.Run.the-variants.{Ran}
 use Rattle.packed.specs.Packed.{Batch, batch, runClocks, runList, readAnswers}
-use Rattle.packed.specs.Calls.{clockedRun}
-use Rattle.packed.proofs.Passing.{Passed, passed, same-refusal, refusal, unstored}
+use Rattle.packed.specs.Calls.{numberOf, clockedRun}
+use Rattle.packed.proofs.Passing.{Passed, passed, same-refusal, refusal}
 use Rattle.packed.proofs.Tops.{list-length}
 use Rattle.packed.proofs.Agree.{exact-answers}
 use borrow.Author.Needs.{needs}
@@ -23,9 +24,9 @@ returns c =
     let f = e ∙ same-refusal _ _ _ 0 (length (runList _)) (rw e at refused) in
     record {
       run = f;
-      list = rw (← f) (unstored r refused _ _);
-      answers = rw (← f) (unstored r refused _ _);
-      exact = rw (← f) (unstored r refused _ _);
+      list = rw (← f) (kept (numberOf r) refused _ _);
+      answers = rw (← f) (kept (numberOf r) refused _ _);
+      exact = rw (← f) (kept (numberOf r) refused _ _);
     }
 
 -- the checks have passed

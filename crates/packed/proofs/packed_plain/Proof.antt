@@ -2,9 +2,10 @@
 use mathlib.Core.Path.{sym}
 use mathlib.Core.Bool.{true}
 use lib.ListN.{length}
+use Rattle.lent.proofs.Laws.{kept}
 use Rattle.packed.specs.Packed.{batch}
-use Rattle.packed.specs.Calls.{plainRun}
-use Rattle.packed.proofs.Passing.{Passed, passed, refusal, unstored}
+use Rattle.packed.specs.Calls.{numberOf, plainRun}
+use Rattle.packed.proofs.Passing.{Passed, passed, refusal}
 use borrow.Author.Needs.{needs}
 use Rattle.packed.proofs.packed_plain.Statement.{statement}
 use Rattle.packed.proofs.packed_plain.Tie as tie
@@ -14,7 +15,7 @@ unfolding plainRun
 returns c =
     let e = c .before .run-answer .ensures in
     let r = c .before .run-answer .result in
-    record { run = e; answers = rw (← e) (unstored r (refusal r (c .match .keys2)) _ _) }
+    record { run = e; answers = rw (← e) (kept (numberOf r) (refusal r (c .match .keys2)) _ _) }
 
 -- the checks have passed
 module _ (c : tie.After-enum-told) where

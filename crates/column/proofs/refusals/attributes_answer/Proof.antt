@@ -1,13 +1,11 @@
 -- `column::refusals::attributes_answer` meets its contract: its tests are the definition's, in their order. Assumes nothing.
 use mathlib.Core.Path.{_∙_, sym}
-use mathlib.Core.List.{[]}
 use Prim.Native.Nat.{_≤_}
 use native.Mathlib.Omega.{arith}
 use borrow.Author.Needs.{needs}
 use borrow.Author.Tests.{not-true, not-false, eq-eqb, ne-eqb}
 use Rattle.column.specs.Refusals.{attributesAnswer}
 use Rattle.column.proofs.Search.{few}
-use Rattle.column.proofs.Faults.{attribute-parts}
 use Rattle.column.proofs.refusals.attributes_answer.Statement.{statement}
 use Rattle.column.proofs.refusals.attributes_answer.Tie as tie
 
@@ -27,23 +25,17 @@ unfolding attributesAnswer
 returns-2 c =
     rw (sym (c .before .before .count-fits .ensures) ∙ not-false _ (c .before .if1 .left), ne-eqb _ _ (c .if2 .taken))
 
-first-off-list-requires : tie.Need-first-off-list-requires
-first-off-list-requires c κs = (at-most (c .before .before .before), c .before .before .if2 .left)
+first-bad-attributes-requires : tie.Need-first-bad-attributes-requires
+first-bad-attributes-requires c κs = (at-most (c .before), c .if2 .left)
 
 returns-3 : tie.Need-returns-3
 unfolding attributesAnswer
 returns-3 c =
-    let past = c .before .before .before .before .before in
-    let start = past .before .before .before .before in
-    rw (
-      sym (past .before .before .count-fits .ensures) ∙ not-false _ (past .before .if1 .left),
-      eq-eqb _ _ (past .if2 .left),
-      attribute-parts (start .args .count) (start .args .attributes .now) [] [],
-    )
-    (rw (c .before .earlier .ensures, c .before .before .first-off-list .ensures, c .before .before .before .first-over .ensures) at (c .refuse .ensures))
+    let past = c .before .before in
+    rw (sym (past .before .before .count-fits .ensures) ∙ not-false _ (past .before .if1 .left), eq-eqb _ _ (past .if2 .left))
+    (rw (c .before .first-bad-attributes .ensures) at (c .refuse .ensures))
 
 pub attributes-answer-spec : {M : Type 1} → statement M
 attributes-answer-spec =
     tie.close
-    (tie.spec (λ c κs. search needs) returns mul-if2 returns-2 (λ c. search needs) (λ c κs. search needs) first-off-list-requires
-    (λ c κs. search needs) (λ c κs. search needs) returns-3)
+    (tie.spec (λ c κs. search needs) returns mul-if2 returns-2 first-bad-attributes-requires (λ c κs. search needs) returns-3)

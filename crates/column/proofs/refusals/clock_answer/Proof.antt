@@ -48,11 +48,11 @@ settled c =
       sym (c .before .lengths-fit .ensures) ∙ not-false _ (c .if2 .left),
     )
 
-all-sound-requires : tie.Need-all-sound-requires
-all-sound-requires c κs = lengths c
+nothing-broken-requires : tie.Need-nothing-broken-requires
+nothing-broken-requires c κs = lengths c
 
 returns-3 : tie.Need-returns-3
-returns-3 c = sym (settled (c .before .before) ∙ c .before .all-sound .ensures (c .if3 .taken))
+returns-3 c = sym (settled (c .before .before) ∙ c .before .nothing-broken .ensures (c .if3 .taken))
 
 settings-answer-requires : tie.Need-settings-answer-requires
 settings-answer-requires c κs = lengths (c .before .before)
@@ -63,4 +63,4 @@ returns-4 c = c .settings-answer .ensures ∙ sym (settled (c .before .before .b
 pub clock-answer-spec : {M : Type 1} → statement M
 clock-answer-spec =
     tie.close
-    (tie.spec (λ c κs. search needs) returns lengths-fit-requires returns-2 all-sound-requires returns-3 settings-answer-requires returns-4)
+    (tie.spec (λ c κs. search needs) returns lengths-fit-requires returns-2 nothing-broken-requires returns-3 settings-answer-requires returns-4)

@@ -1,47 +1,38 @@
 -- `column::refusals::first_off_list` meets its contract: no slice passed is off its list. Assumes nothing.
 use Prim.Native.Nat.{_≤_, _-_}
-use mathlib.Core.Path.{_≡_, _∙_, sym, ap}
-use mathlib.Core.List.{[]}
+use mathlib.Core.Path.{_≡_, _∙_, sym}
 use native.Mathlib.Omega.{arith}
 use native.Mathlib.Numerals.{add-one}
-use lib.Dec.{eqb}
 use borrow.Author.Needs.{needs}
-use borrow.Author.Tests.{eq-eqb, ne-eqb}
-use Rattle.slice.specs.Legal.{offList}
-use Rattle.column.specs.declared.Check.the-variants.{Attribute}
 use Rattle.column.specs.declared.refusals.Found.the-variants.{Nothing}
 use Rattle.column.specs.Refusals.{lowest}
-use Rattle.column.specs.Parts.{faulty}
+use Rattle.column.specs.Parts.{offListAt}
 use Rattle.column.proofs.Search.{lowest-at}
-use Rattle.column.proofs.Faults.{fault-list}
 use Rattle.column.proofs.refusals.first_off_list.Statement.{statement}
 use Rattle.column.proofs.refusals.first_off_list.Tie as tie
 
 abbrev Inv-loop : tie.InvT-loop
-Inv-loop count attributes k₀ k = (k ≤ count) × (lowest (faulty Attribute attributes [] []) k ≡ Nothing)
+Inv-loop count attributes k₀ k = (k ≤ count) × (lowest (offListAt attributes) k ≡ Nothing)
 
 abbrev μ-loop : tie.MeasureT-loop
 μ-loop count attributes k₀ k = count - k
 
 -- what the call said, of the slice that it was about
-told : (c : tie.After-fault-of Inv-loop μ-loop) →
-    let at = c .before .before .before .before .before in
-    eqb (c .fault-of .result) 3 ≡ faulty Attribute (at .before .before .args .attributes .now) [] [] (at .loop .k)
-unfolding faulty
-told c =
-    rw (c .fault-of .ensures) (fault-list _ _ _ ∙ ap offList (c .before .before .before .attributes-at .ensures))
+told : (c : tie.After-off-list Inv-loop μ-loop) →
+    let at = c .before .before .before in
+    offListAt (at .before .before .args .attributes .now) (at .loop .k) ≡ c .off-list .result
+unfolding offListAt
+told c = sym (rw (c .before .attributes-at .ensures) at (c .off-list .ensures))
 
 returns : tie.Need-returns Inv-loop μ-loop
 returns c =
-    let at = c .before .before .before .before .before .before in
-    sym
-    (lowest-at _ _ _ (c .before .before .before .before .before .loop-test .taken) (at .loop .inv .1)
-    (sym (told (c .before)) ∙ eq-eqb _ _ (c .if1 .taken)))
+    let at = c .before .before .before .before in
+    sym (lowest-at _ _ _ (c .before .before .before .loop-test .taken) (at .loop .inv .1) (told (c .before) ∙ c .if1 .taken))
 
 loop-again : tie.Need-loop-again Inv-loop μ-loop
 loop-again c =
-    let at = c .before .before .before .before .before .before in
-    (search needs, rw (add-one, at .loop .inv .1, sym (told (c .before)) ∙ ne-eqb _ _ (c .if1 .left)))
+    let at = c .before .before .before .before in
+    (search needs, rw (add-one, at .loop .inv .1, told (c .before) ∙ c .if1 .left))
 
 returns-2 : tie.Need-returns-2 Inv-loop μ-loop
 returns-2 c =
@@ -51,5 +42,5 @@ returns-2 c =
 pub first-off-list-spec : {M : Type 1} → statement M
 first-off-list-spec =
     tie.close
-    (tie.spec Inv-loop μ-loop (λ c. search needs) (λ c κs. search needs) (λ c κs. search needs) (λ c κs. search needs)
-    (λ c κs. search needs) returns (λ c. search needs) (λ c. search needs) loop-again returns-2)
+    (tie.spec Inv-loop μ-loop (λ c. search needs) (λ c κs. search needs) (λ c κs. search needs)
+    returns (λ c. search needs) (λ c. search needs) loop-again returns-2)

@@ -9,9 +9,11 @@ use lib.Dec.{leb}
 use lib.ListN.{length, getD}
 use Rattle.column.specs.declared.refusals.Found.the-variants.{Nothing}
 use Rattle.column.specs.Column.{stretch}
-use Rattle.column.specs.Refusals.{some, exceeds, lowest}
+use Rattle.records.specs.Records.{some, exceeds}
+use Rattle.records.proofs.Searching.{some-true}
+use Rattle.column.specs.Refusals.{lowest}
 use Rattle.column.specs.Parts.{over}
-use Rattle.column.proofs.Search.{entry-below, some-true, lowest-at, shifted-fits, shifted-over}
+use Rattle.column.proofs.Search.{entry-below, lowest-at, shifted-fits, shifted-over}
 use Rattle.column.proofs.Stacks.{in-stretch, stretch-word}
 use borrow.Author.Needs.{needs}
 use Rattle.column.proofs.refusals.first_over.Statement.{statement}

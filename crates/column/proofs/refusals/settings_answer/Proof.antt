@@ -1,31 +1,28 @@
--- `column::refusals::settings_answer` meets its contract: the limit checks and the first fault, in the checks' order. Assumes nothing.
-use mathlib.Core.Path.{_∙_}
-use Rattle.column.proofs.Faults.{settings-are}
+-- `column::refusals::settings_answer` meets its contract: the limit checks and the rules, in the checks' order. Assumes nothing.
 use borrow.Author.Needs.{needs}
+use Rattle.column.specs.Refusals.{broken, fails, settings}
+use Rattle.column.specs.Parts.{over}
 use Rattle.column.proofs.refusals.settings_answer.Statement.{statement}
 use Rattle.column.proofs.refusals.settings_answer.Tie as tie
 
 returns : tie.Need-returns
+unfolding settings fails broken over
 returns c =
-    let at-port = c .before .before .before .before in
-    let at-earlier = at-port .before .before .before .before in
-    let at-fault = at-earlier .before .before .before .before in
+    let at-5 = c .before .before in
+    let at-port = at-5 .before .before in
+    let at-register = at-port .before .before in
     rw (
       c .before .refuse2 .ensures,
-      c .before .before .refuse .ensures,
-      c .before .before .before .judged .ensures,
-      at-port .first-over3 .ensures,
-      at-port .before .before .first-over2 .ensures,
-      at-earlier .earlier .ensures,
-      at-earlier .before .off-list .ensures,
-      at-earlier .before .before .first-over .ensures,
+      at-5 .refuse .ensures,
+      at-5 .before .rules-answer .ensures,
+      at-port .first-over2 .ensures,
+      at-register .first-over .ensures,
+      at-register .before .before .first-bad-attributes .ensures,
     )
     at (c .refuse3 .ensures)
-    ∙ settings-are _ _ _ _ _ (at-fault .first-fault .ensures)
 
 pub settings-answer-spec : {M : Type 1} → statement M
 settings-answer-spec =
     tie.close
-    (tie.spec (λ c κs. search needs) (λ c. search needs) (λ c κs. search needs) (λ c κs. search needs) (λ c κs. search needs)
-    (λ c. search needs) (λ c κs. search needs) (λ c. search needs) (λ c κs. search needs) (λ c κs. search needs)
-    (λ c κs. search needs) (λ c κs. search needs) (λ c κs. search needs) returns)
+    (tie.spec (λ c κs. search needs) (λ c. search needs) (λ c κs. search needs) (λ c. search needs) (λ c κs. search needs)
+    (λ c κs. search needs) (λ c κs. search needs) (λ c κs. search needs) (λ c κs. search needs) returns)

@@ -21,17 +21,22 @@ returns c =
     let rs = given .args .registers .now in
     let ps = given .args .ports .now in
     let os = given .args .outputs .now in
+    let few = given .pre .0 .fair .count in
     record {
       step =
           c .answered .ensures
-          ∙ ap₂ (answered q) (clock .ensures .answer) (ap (λ (p : Player). record { player = p; event = Clocked (q .clocks) }) (c .before .after-clock .ensures));
-      registers = registers-left q at rs ps os (clock .last .1 .1 .0) (given .pre .0 .fair .count) (given .pre .1 .registers) (clock .kept .1 .1 .0) (clock .ensures .registers);
-      outputs = outputs-left q at rs ps os (clock .last .1 .1 .1 .1 .0) (given .pre .0 .fair .count) (given .pre .1 .outputs) (clock .kept .1 .1 .1 .1 .0) (clock .ensures .outputs);
+          ∙ ap₂ (answered q) (clock .ensures .answer)
+          (ap (λ (p : Player). record { player = p; event = Clocked (q .clocks) }) (c .before .after-clock .ensures));
+      registers =
+          registers-left q at rs ps os (clock .last .1 .1 .0) few (given .pre .1 .registers) (clock .kept .1 .1 .0) (clock .ensures .registers);
+      outputs =
+          outputs-left q at rs ps os (clock .last .1 .1 .1 .1 .0) few (given .pre .1 .outputs) (clock .kept .1 .1 .1 .1 .0) (clock .ensures .outputs);
     }
 
 pub take-clock-spec : {M : Type 1} → statement M
 take-clock-spec =
     tie.close
-    (tie.spec (λ c. search needs) (λ c. simp length-take (omega arith)) (λ c. search needs) (λ c. search needs) (λ c. simp length-take (omega arith)) (λ c. search needs) (λ c. simp length-take (omega arith)) (λ c. search needs)
-    (λ c. search needs) (λ c. simp length-take (omega arith)) (λ c κs. search needs) (λ c κs. search needs) (λ c κs. search needs) (λ c. search needs) (λ c. search needs)
-    returns)
+    (tie.spec (λ c. search needs) (λ c. simp length-take (omega arith)) (λ c. search needs) (λ c. search needs)
+    (λ c. simp length-take (omega arith)) (λ c. search needs) (λ c. simp length-take (omega arith)) (λ c. search needs)
+    (λ c. search needs) (λ c. simp length-take (omega arith)) (λ c κs. search needs) (λ c κs. search needs) (λ c κs. search needs)
+    (λ c. search needs) (λ c. search needs) returns)

@@ -3,52 +3,57 @@ use mathlib.Core.Path.{_∙_, sym, ap, ap₂}
 use native.Mathlib.Omega.{arith}
 use lib.ListN.{length-take}
 use borrow.Author.Tests.{not-true, not-false}
+use Rattle.records.specs.Records.{attributeWords}
 use Rattle.listing.specs.Steps.{goesOn, answered}
-use Rattle.listing.proofs.Groups.{malformed-step, one-of-step, last-step, settings-in}
+use Rattle.listing.specs.Listing.{settingsLine}
+use Rattle.listing.proofs.Groups.{ReadIn, malformed-step, one-of-step, last-step, settings-in}
 use borrow.Author.Needs.{needs}
 use Rattle.listing.proofs.lines.take_settings.Statement.{statement}
 use Rattle.listing.proofs.lines.take_settings.Tie as tie
 
+-- from where the line was read back to what was lent
+abbrev given : tie.After-read-settings → tie.Start
+given c = c .before .before .before .before .before
+
+-- its numbers stand in its slice's attributes
+read : (c : tie.After-read-settings)
+    → (let a = given c .args in
+    ReadIn (settingsLine (a .line .now)) attributeWords (a .q .given) (a .attributes .now) (c .read-settings .result)
+    (c .read-settings .last .1 .0))
+read c =
+    let a = given c .args in
+    settings-in (a .q .given) (a .attributes .now) (given c .pre .0 .given) (given c .pre .1) (a .line .now) (c .read-settings .ensures)
+
 malformed : tie.Need-returns
 malformed c =
-    let back4 = c .before .before .before .before in
-    let back9 = back4 .before .before .before .before .before in
-    let given = back9 in
-    let a = given .args in
-    let read = settings-in (a .q .given) (a .attributes .now) (given .pre .0 .given) (given .pre .1) (a .line .now) (back4 .read-settings .ensures) in
-    record { words = read .words; step = c .refused .ensures ∙ sym (malformed-step _ _ _ (read .well ∙ not-true _ (c .before .if1 .taken))) }
+    let line = c .before .before .before .before in
+    let well = read line .well ∙ not-true _ (c .before .if1 .taken) in
+    record { words = read line .words; step = c .refused .ensures ∙ sym (malformed-step _ _ _ well) }
 
 one-of : tie.Need-returns-2
 one-of c =
-    let back4 = c .before .before .before .before in
-    let back7 = back4 .before .before .before in
-    let back12 = back7 .before .before .before .before .before in
-    let given = back12 in
-    let a = given .args in
-    let read = settings-in (a .q .given) (a .attributes .now) (given .pre .0 .given) (given .pre .1) (a .line .now) (back7 .read-settings .ensures) in
+    let test = c .before .before .before .before in
+    let line = test .before .before .before in
+    let well = read line .well ∙ not-false _ (test .if1 .left) in
     record {
-      words = read .words;
-      step =
-          c .quiet .ensures
-          ∙ ap goesOn (c .before .after-slice .ensures)
-          ∙ sym (one-of-step _ _ _ (read .well ∙ not-false _ (back4 .if1 .left)) (c .before .before .if2 .taken));
+      words = read line .words;
+      step = c .quiet .ensures ∙ ap goesOn (c .before .after-slice .ensures) ∙ sym (one-of-step _ _ _ well (c .before .before .if2 .taken));
     }
 
 last : tie.Need-returns-3
 last c =
-    let back5 = c .before .before .before .before .before in
-    let back7 = back5 .before .before in
-    let back10 = back7 .before .before .before in
-    let back15 = back10 .before .before .before .before .before in
-    let given = back15 in
-    let a = given .args in
-    let read = settings-in (a .q .given) (a .attributes .now) (given .pre .0 .given) (given .pre .1) (a .line .now) (back10 .read-settings .ensures) in
+    let ready = c .before .before in
+    let all = ready .before .before .before in
+    let test = all .before .before in
+    let line = test .before .before .before in
+    let well = read line .well ∙ not-false _ (test .if1 .left) in
     record {
-      words = read .words;
+      words = read line .words;
       step =
           c .answered .ensures
-          ∙ ap₂ (answered (a .q)) (c .before .before .before .attributes-answer .ensures) (c .before .quiet2 .ensures ∙ ap goesOn (c .before .before .clocking .ensures))
-          ∙ sym (last-step _ _ _ (read .well ∙ not-false _ (back7 .if1 .left)) (omega (arith, back5 .if2 .left)));
+          ∙ ap₂ (answered (given line .args .q)) (ready .before .attributes-answer .ensures)
+          (c .before .quiet2 .ensures ∙ ap goesOn (ready .clocking .ensures))
+          ∙ sym (last-step _ _ _ well (omega (arith, all .if2 .left)));
     }
 
 pub take-settings-spec : {M : Type 1} → statement M

@@ -27,29 +27,41 @@ take-line-requires c κs =
 newline : tie.Need-returns-2
 unfolding byteTurn
 newline c =
-    let back8 = c .before .before .before .before .before .before .before .before in
-    let back14 = back8 .before .before .before .before .before .before in
-    let back15 = back14 .before in
-    let back16 = back15 .before in
-    let back17 = back16 .before in
-    let back23 = back17 .before .before .before .before .before .before in
-    let a = back23 .args in
-    rw (sym (back17 .is-working .ensures) ∙ not-false _ (back16 .if1 .left), eq-eqb _ _ (back15 .if2 .taken))
-    (ap (λ l. turnOf l (a .line .now)) (back8 .take-line .ensures)
-    ∙ ap (λ (q : Player). turnOf (lineLeaves (q .phase) q (take (a .q .held) (a .line .now)) (a .attributes .now) (a .registers .now) (a .ports .now) (a .outputs .now)) (a .line .now)) (back14 .after-line .ensures))
+    let line = c .before .before .before .before .before .before .before .before in
+    let counted = line .before .before .before .before .before .before in
+    let test = counted .before .before in
+    let a = test .before .before .before .before .before .before .before .args in
+    let held = take (a .q .held) (a .line .now) in
+    rw (sym (test .before .is-working .ensures) ∙ not-false _ (test .if1 .left), eq-eqb _ _ (counted .before .if2 .taken))
+    (ap (λ l. turnOf l (a .line .now)) (line .take-line .ensures)
+    ∙ ap
+    (λ (q : Player).
+    turnOf (lineLeaves (q .phase) q held (a .attributes .now) (a .registers .now) (a .ports .now) (a .outputs .now)) (a .line .now))
+    (counted .after-line .ensures))
 
 too-long : tie.Need-returns-3
 unfolding byteTurn
 too-long c =
-    let back4 = c .before .before .before .before in
-    let back5 = back4 .before in
-    rw (sym (back5 .is-working .ensures) ∙ not-false _ (back4 .if1 .left), ne-eqb _ _ (c .before .before .before .if2 .left), eq-eqb _ _ (c .before .before .if3 .taken), c .refused .ensures)
+    let full = c .before .before in
+    let test = full .before .before in
+    rw (
+      sym (test .before .is-working .ensures) ∙ not-false _ (test .if1 .left),
+      ne-eqb _ _ (full .before .if2 .left),
+      eq-eqb _ _ (full .if3 .taken),
+      c .refused .ensures,
+    )
 
 longer : tie.Need-returns-4
 unfolding byteTurn
 longer c =
-    let back4 = c .before .before .before .before in
-    rw (sym (back4 .is-working .ensures) ∙ not-false _ (c .before .before .before .if1 .left), ne-eqb _ _ (c .before .before .if2 .left), ne-eqb _ _ (c .before .if3 .left), c .after-byte .ensures)
+    let room = c .before in
+    let test = room .before .before in
+    rw (
+      sym (test .before .is-working .ensures) ∙ not-false _ (test .if1 .left),
+      ne-eqb _ _ (room .before .if2 .left),
+      ne-eqb _ _ (room .if3 .left),
+      c .after-byte .ensures,
+    )
 
 pub take-byte-spec : {M : Type 1} → statement M
 take-byte-spec =

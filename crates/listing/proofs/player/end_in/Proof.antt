@@ -1,5 +1,8 @@
 -- `listing::player::end_in` meets its contract: each arm is the definition's. Assumes nothing.
+use mathlib.Core.Path.{_≡_}
+use mathlib.Core.Bool.{true, false}
 use borrow.Author.Needs.{needs}
+use Rattle.listing.specs.Steps.{betweenClocks}
 use Rattle.listing.proofs.player.end_in.Statement.{statement}
 use Rattle.listing.proofs.player.end_in.Tie as tie
 
@@ -10,10 +13,16 @@ settings : tie.Need-returns-2
 settings c = rw (c .enum-told2 .given .1)
 
 between : tie.Need-returns-3
-between c = rw (c .before .before .before .enum-told3 .given .1, c .if1 .taken)
+between c =
+    let due = c .before .before .before in
+    let whole : betweenClocks (due .before .before .before .args .player) ≡ true = c .if1 .taken in
+    rw (due .enum-told3 .given .1, whole)
 
 short : tie.Need-returns-4
-short c = rw (c .before .before .before .enum-told3 .given .1, c .if1 .left)
+short c =
+    let due = c .before .before .before in
+    let missing : betweenClocks (due .before .before .before .args .player) ≡ false = c .if1 .left in
+    rw (due .enum-told3 .given .1, missing)
 
 stopped : tie.Need-returns-5
 stopped c = rw (c .enum-told4 .given .1)

@@ -21,37 +21,39 @@ loop-holds c = (omega arith, put-none _ _)
 
 put-slice-requires : tie.Need-put-slice-requires Inv-loop μ-loop
 put-slice-requires c κs =
-    let back6 = c .before .before .before .before .before .before in
     let loop = c .before .before .before .loop in
-    let given = back6 in (
-      lent-slice (loop .k) (given .args .count) (given .args .outputs .now) (c .before .before .loop-test .taken) (given .pre .1),
-      next-room (given .args .clock) (given .args .count) (given .args .at) (loop .k) (loop .end) (given .args .outputs .now) (given .args .out .now) (loop .out) (given .pre .0) (given .pre .2) (c .before .before .loop-test .taken) (loop .inv .1),
+    let given = c .before .before .before .before .before .before in
+    let a = given .args in
+    let more = c .before .before .loop-test .taken in (
+      lent-slice (loop .k) (a .count) (a .outputs .now) more (given .pre .1),
+      next-room (a .clock) (a .count) (a .at) (loop .k) (loop .end) (a .outputs .now) (a .out .now) (loop .out) (given .pre .0) (given .pre .2)
+          more (loop .inv .1),
     )
 
 loop-again : tie.Need-loop-again Inv-loop μ-loop
 loop-again c =
-    let back5 = c .before .before .before .before .before in
-    let back6 = back5 .before in
-    let back9 = back6 .before .before .before in
-    let loop = back6 .loop in
-    let given = back9 in (
+    let test = c .before .before .before .before .before in
+    let loop = test .before .loop in
+    let given = test .before .before .before .before in
+    let a = given .args in (
       omega arith,
-      one-line (given .args .clock) (given .args .count) (given .args .at) (loop .k) (loop .end) (given .args .outputs .now) (given .args .out .now) (loop .out) (given .pre .0) (given .pre .2) (back5 .loop-test .taken) (loop .inv .1) _ _ (c .before .before .put-slice .ensures),
+      one-line (a .clock) (a .count) (a .at) (loop .k) (loop .end) (a .outputs .now) (a .out .now) (loop .out) (given .pre .0) (given .pre .2)
+          (test .loop-test .taken) (loop .inv .1) _ _ (c .before .before .put-slice .ensures),
     )
 
 same-length : tie.Need-same-length Inv-loop μ-loop
 same-length c =
-    let back4 = c .before .before .before .before in
     let loop = c .before .loop in
-    let given = back4 in
-    kept-room (given .args .clock) (given .args .count) (given .args .at) (loop .k) (loop .end) (given .args .outputs .now) (given .args .out .now) (loop .out) (loop .inv .0) (given .pre .0) (given .pre .2) (loop .inv .1)
+    let given = c .before .before .before .before in
+    let a = given .args in
+    kept-room (a .clock) (a .count) (a .at) (loop .k) (loop .end) (a .outputs .now) (a .out .now) (loop .out) (loop .inv .0) (given .pre .0)
+    (given .pre .2) (loop .inv .1)
 
 returns : tie.Need-returns Inv-loop μ-loop
 returns c =
-    let back4 = c .before .before .before .before in
     let loop = c .before .loop in
-    let given = back4 in
-    all-slices (given .args .clock) (given .args .count) (given .args .at) (loop .k) (loop .end) (given .args .outputs .now) (given .args .out .now) (loop .out) (omega arith) (loop .inv .1)
+    let a = c .before .before .before .before .args in
+    all-slices (a .clock) (a .count) (a .at) (loop .k) (loop .end) (a .outputs .now) (a .out .now) (loop .out) (omega arith) (loop .inv .1)
 
 pub put-clock-spec : {M : Type 1} → statement M
 put-clock-spec =

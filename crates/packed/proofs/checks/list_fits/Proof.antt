@@ -7,7 +7,7 @@ returns : tie.Need-returns
 returns c = search needs
 
 returns-2 : tie.Need-returns-2
-returns-2 c = rw (c .before .lent .given .1)
+returns-2 c = rw (c .before .list .given .1)
 
 pub list-fits-spec : {M : Type 1} → statement M
 list-fits-spec =

@@ -3,7 +3,9 @@ use Prim.Native.Nat.{ℕ, _*_, _-_}
 use mathlib.Core.Path.{_≡_, _∙_, refl, sym, ap}
 use mathlib.Core.List.{List}
 use lib.ListN.{length, replicate, length-replicate}
+use Rattle.lent.proofs.Laws.{stored-all}
 use Rattle.records.specs.Records.{attributeWords, attributesWords}
+use Rattle.column.specs.Column.{stretch}
 use Rattle.column.proofs.Stacks.{part-count, stretch-length}
 use Rattle.packed.specs.Packed.{mostTerms, setting, runAttributes}
 use Rattle.packed.proofs.Fill.{Written, none-written, one-written, all-written}
@@ -26,20 +28,18 @@ abbrev μ-loop : tie.MeasureT-loop
 loop-holds : tie.Need-loop-holds Inv-loop μ-loop
 loop-holds c = none-written _ attributeWords (λ k. refl) _ _ room
 
-store-requires : tie.Need-store-requires Inv-loop μ-loop
-store-requires c κs =
-    let test = c .before .before in
-    simp part-count
-    (stretch-length attributeWords _ _ _ (test .loop-test .taken) (test .before .loop .inv .long)
-    ∙ sym (ap length (test .before .before .words .ensures)))
-
 loop-again : tie.Need-loop-again Inv-loop μ-loop
 loop-again c =
     let test = c .before .before .before .before in
     let made = test .before .before in
+    let words = made .words .ensures in
     simp part-count
     (one-written _ attributeWords (λ k. refl) _ _ room _ _ _ (test .loop-test .taken) (test .before .loop .inv)
-    (c .before .store .ensures ∙ made .words .ensures ∙ ap attributesWords (made .before .slice-setting .ensures)))
+    (simp part-count at (c .before .store .ensures)
+    ∙ stored-all (stretch attributeWords (test .before .loop .k) (test .before .loop .all)) (made .words .result)
+    (stretch-length attributeWords _ _ _ (test .loop-test .taken) (test .before .loop .inv .long) ∙ sym (ap length words))
+    ∙ words
+    ∙ ap attributesWords (made .before .slice-setting .ensures)))
 
 returns : tie.Need-returns Inv-loop μ-loop
 unfolding runAttributes
@@ -50,5 +50,5 @@ pub all-attributes-spec : {M : Type 1} → statement M
 all-attributes-spec =
     tie.close
     (tie.spec Inv-loop μ-loop (λ c κs. search needs) (λ c κs. search needs) loop-holds (λ c. search needs) (λ c. search needs)
-    (λ c. search needs) (λ c. search needs) (λ c. search needs) (λ c. search needs) (λ c. search needs) store-requires
+    (λ c. search needs) (λ c. search needs) (λ c. search needs) (λ c. search needs) (λ c. search needs) (λ c κs. search needs)
     (λ c. search needs) (λ c. search needs) loop-again returns)

@@ -3,7 +3,9 @@ use Prim.Native.Nat.{ℕ, _-_, _<_}
 use mathlib.Core.Path.{_∙_, refl, sym, ap}
 use native.Mathlib.Omega.{arith}
 use lib.ListN.{length}
+use Rattle.lent.proofs.Laws.{stored-all}
 use Rattle.records.specs.Records.{portWords, portsWords}
+use Rattle.column.specs.Column.{stretch}
 use Rattle.column.proofs.Stacks.{part-count, stretch-length}
 use Rattle.packed.specs.Packed.{batch, slicePorts, runPorts}
 use Rattle.packed.specs.Parts.{FedBytes}
@@ -27,21 +29,19 @@ loop-holds c = (none-written _ portWords (λ k. refl) _ _ (c .before .pre .1), b
 slice-ports-requires : tie.Need-slice-ports-requires Inv-loop μ-loop
 slice-ports-requires c κs = (c .before .before .before .pre .0, c .loop-test .taken)
 
-store-requires : tie.Need-store-requires Inv-loop μ-loop
-store-requires c κs =
-    let made = c .before .before in
-    let test = made .before .before in
-    simp part-count
-    (stretch-length portWords _ _ _ (test .loop-test .taken) (test .before .loop .inv .0 .long) ∙ sym (ap length (made .words .ensures)))
-
 loop-again : tie.Need-loop-again Inv-loop μ-loop
 loop-again c =
     let made = c .before .before .before .before .before in
     let test = made .before .before in
+    let words = made .words .ensures in
     let fed = made .before .slice-ports .ensures in (
       simp part-count
           (one-written _ portWords (λ k. refl) _ _ (test .before .before .before .pre .1) _ _ _ (test .loop-test .taken) (test .before .loop .inv .0)
-          (c .before .before .store .ensures ∙ made .words .ensures ∙ ap portsWords (fed .ports))),
+          (simp part-count at (c .before .before .store .ensures)
+          ∙ stored-all (stretch portWords (test .before .loop .k) (test .before .loop .ports)) (made .words .result)
+          (stretch-length portWords _ _ _ (test .loop-test .taken) (test .before .loop .inv .0 .long) ∙ sym (ap length words))
+          ∙ words
+          ∙ ap portsWords (fed .ports))),
       below-more _ _ (test .before .loop .inv .1) (fed .bytes),
     )
 
@@ -60,5 +60,5 @@ pub fill-ports-spec : {M : Type 1} → statement M
 fill-ports-spec =
     tie.close
     (tie.spec Inv-loop μ-loop loop-holds slice-ports-requires (λ c κs. search needs) (λ c. search needs) (λ c. search needs)
-    (λ c. search needs) (λ c. search needs) (λ c. search needs) (λ c. search needs) (λ c. search needs) store-requires
+    (λ c. search needs) (λ c. search needs) (λ c. search needs) (λ c. search needs) (λ c. search needs) (λ c κs. search needs)
     (λ c. search needs) (λ c. search needs) loop-again same-length returns)

@@ -1,9 +1,8 @@
 -- `slice::operands::carry_in` meets its contract: each arm is a place of the list, and the last chooses 0. Assumes nothing.
 use mathlib.Core.Path.{sym}
-use Prim.Native.Nat.{_-_}
+use native.Mathlib.Omega.{arith}
 use borrow.Author.Needs.{needs}
-use Rattle.unit.specs.Choice.{bit}
-use Rattle.slice.proofs.Selects.{rest-cin}
+use Rattle.unit.proofs.Laws.{choose-off, out, past, over}
 use Rattle.slice.proofs.operands.carry_in.Statement.{statement}
 use Rattle.slice.proofs.operands.carry_in.Tie as tie
 
@@ -26,9 +25,9 @@ returns-6 : tie.Need-returns-6
 returns-6 c =
     let x = c .before .before .args in
     let n = c .match .rest in
-    let low = bit (x .below) 47 in
-    let own = bit (x .own) 47 in
-    sym (rest-cin (x .carryin) (1 - low) low (1 - own) own (x .select) (c .before .if1 .left) (n .0 .0 .0 .1) (n .0 .0 .1) (n .0 .1) (n .1))
+    sym
+    (choose-off (x .select) (omega arith)
+    (past (c .before .if1 .left) (past (n .0 .0 .0 .1) (over (past (n .0 .0 .1) (over (past (n .0 .1) (over (past (n .1) out)))))))))
 
 pub carry-in-spec : {M : Type 1} → statement M
 carry-in-spec =

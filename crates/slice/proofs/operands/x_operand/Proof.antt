@@ -1,9 +1,8 @@
 -- `slice::operands::x_operand` meets its contract: each arm is a place of the list, and the last chooses 0. Assumes nothing.
 use mathlib.Core.Path.{sym}
+use native.Mathlib.Omega.{arith}
 use borrow.Author.Needs.{needs}
-use Rattle.word.specs.Word.{extend}
-use Rattle.slice.specs.Slice.{joined}
-use Rattle.slice.proofs.Selects.{rest-4}
+use Rattle.unit.proofs.Laws.{choose-off, out, past, over}
 use Rattle.slice.proofs.operands.x_operand.Statement.{statement}
 use Rattle.slice.proofs.operands.x_operand.Tie as tie
 
@@ -17,7 +16,7 @@ returns-4 : tie.Need-returns-4
 returns-4 c =
     let x = c .before .args in
     let n = c .match .rest in
-    sym (rest-4 (extend 45 48 (x .m)) (x .own) (joined (x .a) (x .b)) (x .select) (n .0 .0 .1) (n .0 .1) (n .1))
+    sym (choose-off (x .select) (omega arith) (over (past (n .0 .0 .1) (past (n .0 .1) (past (n .1) out)))))
 
 pub x-operand-spec : {M : Type 1} → statement M
 x-operand-spec = tie.close (tie.spec (λ c κs. search needs) (λ c. search needs) (λ c. search needs) returns (λ c. search needs) returns-3 returns-4)

@@ -1,8 +1,8 @@
 -- `slice::operands::z_operand` meets its contract: each arm is a place of the list, and the last chooses 0. Assumes nothing.
 use mathlib.Core.Path.{sym}
+use native.Mathlib.Omega.{arith}
 use borrow.Author.Needs.{needs}
-use Rattle.word.specs.Word.{shifted}
-use Rattle.slice.proofs.Selects.{rest-z}
+use Rattle.unit.proofs.Laws.{choose-off, out, past, over}
 use Rattle.slice.proofs.operands.z_operand.Statement.{statement}
 use Rattle.slice.proofs.operands.z_operand.Tie as tie
 
@@ -17,8 +17,8 @@ returns-6 c =
     let x = c .before .args in
     let n = c .match .rest in
     sym
-    (rest-z (x .below) (x .own) (x .c) (shifted 48 17 (x .below)) (shifted 48 17 (x .own)) (x .select)
-    (n .0 .0 .0 .0 .1) (n .0 .0 .0 .1) (n .0 .0 .1) (n .0 .1) (n .1))
+    (choose-off (x .select) (omega arith)
+    (over (past (n .0 .0 .0 .0 .1) (past (n .0 .0 .0 .1) (past (n .0 .0 .1) (over (past (n .0 .1) (past (n .1) out))))))))
 
 pub z-operand-spec : {M : Type 1} → statement M
 z-operand-spec = tie.close (tie.spec (λ c κs. search needs) (λ c κs. search needs) (λ c. search needs) (λ c. search needs) (λ c. search needs) returns-4 returns-5 returns-6)

@@ -1,6 +1,7 @@
 -- `text::print::field` meets its contract. Assumes nothing.
 use native.Mathlib.Omega.{arith}
 use lib.ListN.{length-set}
+use Rattle.text.specs.Bytes.{tab}
 use Rattle.text.proofs.Decimal.{decimal-length}
 use Rattle.text.proofs.Paste.{put-one, put-more}
 use borrow.Author.Needs.{needs}
@@ -16,7 +17,7 @@ same-length c = simp length-set at (c .before .before .decimal .kept .1 .0)
 returns : tie.Need-returns
 returns c =
     let a = c .before .before .before .before .before .args in
-    put-more (put-one (a .at) 9 (a .out .now) (omega arith)) (c .before .before .decimal .ensures) (omega arith)
+    put-more (put-one (a .at) tab (a .out .now) (omega arith)) (c .before .before .decimal .ensures) (omega arith)
 
 pub field-spec : {M : Type 1} → statement M
 field-spec =

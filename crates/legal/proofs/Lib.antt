@@ -1,0 +1,5 @@
+pub mod Excess
+pub mod Tables
+pub mod Verdict
+pub mod Unique
+pub mod Values
