@@ -233,6 +233,52 @@ static void lanes(void)
                    "a sum in lanes");
 }
 
+/* Every content of the four flag registers: a flag is lit only while PD and PBD are both 0, and only with PREG 1. */
+static void flags_by_registers(void)
+{
+    /* OVERFLOW and UNDERFLOW, by PDPAST and PBDPAST. */
+    static const uint64_t lit[2][2][2] = { { { 0, 0 }, { 0, 1 } }, { { 1, 0 }, { 1, 1 } } }, dark[2] = { 0, 0 };
+    for (unsigned held = 0; held < 32; held++) {
+        uint64_t preg = held >> 4, pdpast = held >> 3 & 1, pbdpast = held >> 2 & 1, pd = held >> 1 & 1, pbd = held & 1;
+        const uint64_t *expected = preg && !pd && !pbd ? lit[pdpast][pbdpast] : dark;
+        cleared_column(1);
+        lend(&attributes)[DSP_ATTRIBUTE_PREG] = preg;
+        lend(&registers)[DSP_REGISTER_PD] = pd;
+        lend(&registers)[DSP_REGISTER_PBD] = pbd;
+        lend(&registers)[DSP_REGISTER_PDPAST] = pdpast;
+        lend(&registers)[DSP_REGISTER_PBDPAST] = pbdpast;
+        expect(clock_of(1) == 0, "a clock with flags");
+        expect(lend(&outputs)[DSP_OUTPUT_OVERFLOW] == expected[0], "OVERFLOW by its registers");
+        expect(lend(&outputs)[DSP_OUTPUT_UNDERFLOW] == expected[1], "UNDERFLOW by its registers");
+    }
+}
+
+/* An accumulator with the mask of 46 bits: what C adds, and the sum and the four flags that the next clock shows. */
+static void sums_and_flags(void)
+{
+    static const struct { int64_t c, p; uint64_t flags[4]; } steps[] = {
+        { 5, 5, { 1, 0, 0, 0 } }, { -8, -3, { 0, 1, 0, 0 } }, { 3, 0, { 1, 0, 0, 0 } }, { -1, -1, { 0, 1, 0, 0 } },
+        { 0x400000000000, 0x3fffffffffff, { 1, 0, 0, 0 } }, { 1, 0x400000000000, { 0, 0, 1, 0 } },
+        { 1, 0x400000000001, { 0, 0, 0, 0 } }, { -2, 0x3fffffffffff, { 1, 0, 0, 0 } },
+        { -0x7fffffffffff, -0x400000000000, { 0, 1, 0, 0 } }, { -1, -0x400000000001, { 0, 0, 0, 1 } },
+        { 1, -0x400000000000, { 0, 1, 0, 0 } }, { 0x7fffffffffff, 0x3fffffffffff, { 1, 0, 0, 0 } },
+        { -0x7fffffffffff - 1, -0x400000000001, { 0, 0, 1, 0 } },
+    };
+    cleared_column(1);
+    lend(&attributes)[DSP_ATTRIBUTE_PREG] = 1;
+    lend(&attributes)[DSP_ATTRIBUTE_MASK] = 0x3fffffffffff;
+    lend(&ports)[DSP_PORT_OPMODE] = 44;
+    for (size_t i = 0; i < sizeof steps / sizeof steps[0]; i++) {
+        lend(&ports)[DSP_PORT_C] = (uint64_t)steps[i].c & (DSP_REFUSED - 1);
+        lend(&ports)[DSP_PORT_CE] = DSP_CE_P;
+        expect(clock_of(1) == 0, "a sum that is loaded");
+        lend(&ports)[DSP_PORT_CE] = 0;
+        expect(clock_of(1) == 0, "a sum that is kept");
+        expect(lend(&outputs)[DSP_OUTPUT_P] == ((uint64_t)steps[i].p & (DSP_REFUSED - 1)), "the sum");
+        expect(memcmp(lend(&outputs) + DSP_OUTPUT_PATTERNDETECT, steps[i].flags, sizeof steps[i].flags) == 0, "the flags of a sum");
+    }
+}
+
 static void clearing(void)
 {
     fill(&registers, 3 * DSP_REGISTER_WORDS, UINT64_MAX);
@@ -432,6 +478,8 @@ int main(int argc, char **argv)
     worked_example();
     neighbours();
     lanes();
+    flags_by_registers();
+    sums_and_flags();
     clearing();
     adder();
     packed_by_hand();

@@ -21,9 +21,10 @@ extern "C" {
 /*
  * The version of this header. The major number rises when a count or a meaning changes, the minor one when something comes
  * to it that changes neither. Major 1 had 21 attributes a slice, major 2 has 22. A caller that was compiled against older
- * counts lends other lengths than are required, and is refused by number 2.
+ * counts lends other lengths than are required, and is refused by number 2. Major 3 has the counts of major 2, and other
+ * OVERFLOW and UNDERFLOW: a P that swings through 0 within its range shows neither any more.
  */
-#define DSP_VERSION_MAJOR 2
+#define DSP_VERSION_MAJOR 3
 #define DSP_VERSION_MINOR 0
 
 /* The refusal rule, and what takes a refusal apart. */
@@ -130,7 +131,12 @@ enum dsp_port {
     DSP_PORT_WORDS = 11
 };
 
-/* A slice's outputs: what it shows in a clock. */
+/*
+ * A slice's outputs: what it shows in a clock. With PREG 1 OVERFLOW is 1 where PDPAST is 1 and PD and PBD are both 0,
+ * UNDERFLOW where PBDPAST is 1 and PD and PBD are both 0, all read from the registers; with PREG 0 both are 0. With
+ * PATTERN 0 and MASK 2^46 - 1 the sums from -2^46 to 2^46 - 1 are in range: a P that leaves it from 0 or above shows
+ * OVERFLOW, one that leaves it from below 0 UNDERFLOW, and one that swings through 0 within it neither.
+ */
 enum dsp_output {
     DSP_OUTPUT_P = 0,
     DSP_OUTPUT_PATTERNDETECT = 1,

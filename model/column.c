@@ -390,8 +390,9 @@ static void slice(const struct attributes *at, struct registers *rg, const struc
     out->p = at->preg ? rg->p : w.p;
     out->patterndetect = at->preg ? rg->pd : w.pd;
     out->patternbdetect = at->preg ? rg->pbd : w.pbd;
-    out->overflow = at->preg && rg->pdpast && !rg->pd;
-    out->underflow = at->preg && rg->pbdpast && !rg->pbd;
+    /* Only while PD and PBD are both 0: a swing through 0 lights neither (02, Ask 2). */
+    out->overflow = at->preg && rg->pdpast && !rg->pd && !rg->pbd;
+    out->underflow = at->preg && rg->pbdpast && !rg->pd && !rg->pbd;
     cas->a = at->areg == 2 && at->acascreg == 1 ? rg->a1 : apath;
     cas->b = at->breg == 2 && at->bcascreg == 1 ? rg->b1 : bpath;
     cas->p = out->p;

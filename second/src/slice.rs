@@ -160,12 +160,14 @@ impl Wired<'_> {
         if !self.attributes.p_held {
             return Outputs { p: result, pd, pbd, overflow: false, underflow: false };
         }
+        // A swing from one match to the other stays legal (02, Ask 2).
+        let unmatched = !reg.pd && !reg.pbd;
         Outputs {
             p: reg.p,
             pd: reg.pd,
             pbd: reg.pbd,
-            overflow: reg.pd_past && !reg.pd,
-            underflow: reg.pbd_past && !reg.pbd,
+            overflow: reg.pd_past && unmatched,
+            underflow: reg.pbd_past && unmatched,
         }
     }
 }

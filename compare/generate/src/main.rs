@@ -9,6 +9,7 @@ mod oracle;
 mod part;
 mod random;
 mod seen;
+mod seen_flags;
 mod seen_lanes;
 mod sweep_detector;
 mod sweep_edges;

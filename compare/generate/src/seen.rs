@@ -1,6 +1,7 @@
 //! The items that the clocks of a column meet.
 
 use crate::oracle::Controls;
+use crate::seen_flags::SeenSums;
 use crate::seen_lanes::SeenLanes;
 use crate::table::Table;
 use crate::words::*;
@@ -11,6 +12,7 @@ pub struct Seen {
     control: Control,
     line: Line,
     lanes: SeenLanes,
+    sums: SeenSums,
     flag: [usize; 2],
     shown: usize,
 }
@@ -125,6 +127,7 @@ impl Seen {
         let control = Control::new(table);
         let line = Line::new(table);
         let lanes = SeenLanes::new(table);
+        let sums = SeenSums::new(table);
         let names = ["flag with PREG 0", "flag with PREG 1"];
         let flags = [&FLAGS[..2], &FLAGS[..]];
         Seen {
@@ -132,6 +135,7 @@ impl Seen {
             control,
             line,
             lanes,
+            sums,
             flag: std::array::from_fn(|preg| table.group(names[preg], flags[preg])),
             shown: table.group("shown P", EDGE_NAMES),
         }
@@ -239,8 +243,22 @@ impl Seen {
         }
     }
 
+    /// Counts what the accepted clocks of a column showed, slice by slice.
+    pub fn shown(
+        &self,
+        table: &mut Table,
+        attributes: &[Attributes],
+        ports: &[Ports],
+        shown: &[[u64; 5]],
+    ) {
+        for (at, shown) in attributes.iter().cycle().zip(shown) {
+            self.outputs(table, at, shown);
+        }
+        self.sums.column(table, attributes, ports, shown);
+    }
+
     /// Counts the five numbers one slice showed.
-    pub fn outputs(&self, table: &mut Table, at: &Attributes, shown: &[u64; 5]) {
+    fn outputs(&self, table: &mut Table, at: &Attributes, shown: &[u64; 5]) {
         edge(table, self.shown, shown[0], 48);
         self.lanes.flags(table, at, &shown[1..]);
         for item in 0..4 {

@@ -12,6 +12,7 @@ const ADD: u64 = 2 << 4 | 3 << 2;
 
 pub fn write(book: &mut Book, random: &mut Random) -> io::Result<()> {
     limits(book, random)?;
+    swings(book, random)?;
     single_bits(book, random)
 }
 
@@ -53,6 +54,34 @@ fn limits(book: &mut Book, random: &mut Random) -> io::Result<()> {
                 }
                 let aim = "limits of an accumulator";
                 book.column(aim, &Column { attributes: and_in_lanes(random, at), clocks })?;
+            }
+        }
+    }
+    Ok(())
+}
+
+/// Swings through 0 and ways out of the legal sums, from either side, by each mask of low bits.
+fn swings(book: &mut Book, random: &mut Random) -> io::Result<()> {
+    for bits in 0..48 {
+        let over: u64 = 1 << bits;
+        let under = over.wrapping_neg() - 1;
+        // Legal are the sums from `bottom` to `top`.
+        let (top, bottom) = (over - 1, under.wrapping_add(1));
+        let up = [0, top, bottom, top, u64::MAX, 0, top, over, top];
+        let down = [bottom, under, bottom, 0, under, u64::MAX, over, 0, 0];
+        for pattern in [0, random.word() & ones(48)] {
+            for (preg, opmode) in [(0, LOAD), (1, LOAD), (1, ADD)] {
+                let mut at = [0; 22];
+                (at[at::PREG], at[at::PATTERN], at[at::MASK]) = (preg, pattern, top);
+                let mut before = 0;
+                let mut to = |sum: u64| {
+                    let from = std::mem::replace(&mut before, sum ^ pattern);
+                    let c = if opmode == ADD { before.wrapping_sub(from) } else { before };
+                    step(opmode, c, CE_ALL, 0)
+                };
+                let clocks = up.into_iter().chain(down).map(&mut to).collect();
+                let column = Column { attributes: and_in_lanes(random, at), clocks };
+                book.column("sums that swing or leave", &column)?;
             }
         }
     }

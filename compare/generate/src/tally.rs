@@ -207,10 +207,9 @@ impl Tally {
             self.seen.clock(&mut self.table, &attributes, &held, ports);
             held.iter_mut().zip(ports).for_each(|(controls, po)| *controls = controls.after(po));
         }
-        for shown in words::<7>(answer, 'O') {
-            let [_, slice, outputs @ ..] = shown;
-            self.seen.outputs(&mut self.table, &attributes[slice as usize], &outputs);
-        }
+        let shown = words::<7>(answer, 'O').into_iter().map(|[_, _, outputs @ ..]| outputs);
+        let shown: Vec<[u64; 5]> = shown.collect();
+        self.seen.shown(&mut self.table, &attributes, &ports, &shown);
     }
 }
 

@@ -5,6 +5,7 @@ use std::io::{self, BufRead, BufReader};
 use std::path::Path;
 
 use crate::oracle::{attributes_refused, clock_refused, too_wide, Controls};
+use crate::seen_flags::SeenHeld;
 use crate::seen_lanes::{cause, SeenLanes, CAUSES};
 use crate::table::Table;
 use crate::words::*;
@@ -41,6 +42,7 @@ struct Groups {
     heights: usize,
     simd: usize,
     lanes: SeenLanes,
+    held: SeenHeld,
     causes: usize,
 }
 
@@ -80,6 +82,7 @@ impl Groups {
             heights: table.group("clock accepted, by slices", 1..25),
             simd: table.group("clock accepted, by USE_SIMD", SIMD_NAMES),
             lanes: SeenLanes::new(table),
+            held: SeenHeld::new(table),
             causes: table.group("clock refusal 3 by", CAUSES),
         }
     }
@@ -154,8 +157,8 @@ fn refused(table: &mut Table, groups: &Groups, call: &Read, number: i128, slice:
     }
 }
 
-/// Counts the lanes that an accepted clock met, and the flags it showed.
-fn lanes(table: &mut Table, groups: &Groups, call: &Read, answer: &Read) {
+/// Counts the lanes that an accepted clock met, and the flags it held and showed.
+fn slices(table: &mut Table, groups: &Groups, call: &Read, answer: &Read) {
     let Slices { attributes, registers, ports } = Slices::of(call);
     for (k, at) in attributes.iter().enumerate() {
         let controls = Controls::of_registers(&registers[k]).in_effect(at, &ports[k]);
@@ -164,6 +167,7 @@ fn lanes(table: &mut Table, groups: &Groups, call: &Read, answer: &Read) {
         let flags = &answer.stretches[3][k * 5 + 1..][..4];
         let flags: Vec<u64> = flags.iter().map(|flag| *flag as u64).collect();
         groups.lanes.flags(table, at, &flags);
+        groups.held.slice(table, at, &registers[k], [flags[2], flags[3]]);
     }
 }
 
@@ -175,7 +179,7 @@ fn accepted(table: &mut Table, groups: &Groups, kind: usize, call: &Read, answer
         }
         1 => {
             table.met(groups.heights, call.plain[0] as usize - 1);
-            lanes(table, groups, call, answer);
+            slices(table, groups, call, answer);
         }
         3 | 4 => {
             table.met(groups.terms[kind - 3], call.plain[0] as usize - 1);

@@ -47,7 +47,7 @@ pub mod po {
     pub const RST: usize = 10;
 }
 
-/// Places of the registers that hold operands, a carry and controls.
+/// Places of the registers that hold operands, a carry, controls and flags.
 pub mod rg {
     pub const A2: usize = 1;
     pub const B2: usize = 3;
@@ -58,6 +58,10 @@ pub mod rg {
     pub const INMODE: usize = 11;
     pub const CARRYINSEL: usize = 12;
     pub const CARRYIN: usize = 13;
+    pub const PD: usize = 14;
+    pub const PBD: usize = 15;
+    pub const PDPAST: usize = 16;
+    pub const PBDPAST: usize = 17;
 }
 
 pub const ATTRIBUTE_NAMES: [&str; 22] = [
@@ -101,11 +105,13 @@ pub const PORT_WIDTHS: [u32; 11] = [30, 18, 48, 27, 9, 4, 5, 3, 1, 13, 10];
 pub const REGISTER_WIDTHS: [u32; 18] =
     [30, 30, 18, 18, 48, 27, 27, 45, 48, 9, 4, 5, 3, 1, 1, 1, 1, 1];
 
-/// CE and RST bits that bear on the control registers.
+/// CE and RST bits that bear on P and on the control registers.
+pub const CE_P: u64 = 1 << 8;
 pub const CE_CTRL: u64 = 1 << 9;
 pub const CE_ALUMODE: u64 = 1 << 10;
 pub const CE_INMODE: u64 = 1 << 11;
 pub const CE_ALL: u64 = 8191;
+pub const RST_P: u64 = 1 << 5;
 pub const RST_CTRL: u64 = 1 << 6;
 pub const RST_ALUMODE: u64 = 1 << 7;
 pub const RST_INMODE: u64 = 1 << 8;

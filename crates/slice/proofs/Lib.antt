@@ -1,4 +1,5 @@
 pub mod Widths
 pub mod Registered
+pub mod Flags
 pub mod Unique
 pub mod Values

@@ -5,17 +5,17 @@ use Rattle.records.specs.declared.Registers.{Registers}
 use Rattle.records.specs.declared.Ports.{Ports}
 use Rattle.records.specs.declared.Outputs.{Outputs}
 use Rattle.slice.specs.declared.inputs.Cascade.{Cascade}
-use Rattle.slice.specs.Slice.{fall, outputsOfSettled, cascadeOf, sliceOutputs, sliceCascade}
+use Rattle.slice.specs.Slice.{strayed, outputsOfSettled, cascadeOf, sliceOutputs, sliceCascade}
 
--- the registers' own P, PD, PBD, and their falls
+-- the registers' own P, PD, PBD, and the flags that they light
 abbrev pub registered : Registers → Outputs
 registered r =
     record {
       p = r .p;
       patterndetect = r .pd;
       patternbdetect = r .pbd;
-      overflow = fall (r .pdpast) (r .pd);
-      underflow = fall (r .pbdpast) (r .pbd);
+      overflow = strayed (r .pdpast) (r .pd) (r .pbd);
+      underflow = strayed (r .pbdpast) (r .pd) (r .pbd);
     }
 
 pub registered-outputs : (a : Attributes) (r : Registers) (p : Ports) (x : Cascade) → a .preg ≡ 1 → sliceOutputs a r p x ≡ registered r

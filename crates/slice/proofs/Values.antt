@@ -1,8 +1,8 @@
 -- Facts by value that pin the definitions of a slice: each stands beside a slip that would break it. Assumes nothing.
 use mathlib.Core.Path.{_≡_, refl}
-use mathlib.Core.List.{[], _∷_, _++_}
+use mathlib.Core.List.{List, [], _∷_, _++_}
 use lib.ListN.{replicate}
-use Prim.Native.Nat.{ℕ, _+_, _*_, _^_}
+use Prim.Native.Nat.{ℕ, _+_, _-_, _*_, _^_}
 use Rattle.unit.specs.Unit.{arithmetic, lanes, logicRows, unitResult, splitResult, preAdder, product, load}
 use Rattle.unit.specs.Detector.{unmasked, detected}
 use Rattle.records.specs.declared.Attributes.{Attributes}
@@ -23,9 +23,12 @@ deep1 = attributesOf (2 ∷ 2 ∷ 1 ∷ 1 ∷ [])
 abbrev deep2 : Attributes
 deep2 = attributesOf (2 ∷ 2 ∷ 2 ∷ 2 ∷ [])
 
--- PREG 1; USE_MULT 1; USE_MULT 1 with AMULTSEL 1
+-- PREG 1, with a mask, or with none; USE_MULT 1; USE_MULT 1 with AMULTSEL 1
+abbrev masking : (mask : ℕ) → Attributes
+masking mask = attributesOf (replicate 10 0 ++ (1 ∷ replicate 9 0 ++ (mask ∷ [])))
+
 abbrev registered : Attributes
-registered = attributesOf (0 ∷ 0 ∷ 0 ∷ 0 ∷ 0 ∷ 0 ∷ 0 ∷ 0 ∷ 0 ∷ 0 ∷ 1 ∷ [])
+registered = masking 0
 
 abbrev multiplying : Attributes
 multiplying = attributesOf (0 ∷ 0 ∷ 0 ∷ 0 ∷ 0 ∷ 0 ∷ 0 ∷ 0 ∷ 0 ∷ 0 ∷ 0 ∷ 0 ∷ 0 ∷ 0 ∷ 0 ∷ 0 ∷ 1 ∷ [])
@@ -37,12 +40,13 @@ preadding = attributesOf (0 ∷ 0 ∷ 0 ∷ 0 ∷ 0 ∷ 0 ∷ 0 ∷ 0 ∷ 0 ∷ 
 abbrev split : (simd : ℕ) → Attributes
 split simd = attributesOf (replicate 21 0 ++ (simd ∷ []))
 
--- A1 11, A2 22, B1 33, B2 44, and the same with P 9, PD 0, PBD 0, PDPAST 1, PBDPAST 1
+-- A1 11, A2 22, B1 33, B2 44
 abbrev held : Registers
 held = registersOf (11 ∷ 22 ∷ 33 ∷ 44 ∷ [])
 
-abbrev fallen : Registers
-fallen = registersOf (0 ∷ 0 ∷ 0 ∷ 0 ∷ 0 ∷ 0 ∷ 0 ∷ 0 ∷ 9 ∷ 0 ∷ 0 ∷ 0 ∷ 0 ∷ 0 ∷ 0 ∷ 0 ∷ 1 ∷ 1 ∷ [])
+-- P, PD and PBD, PDPAST and PBDPAST
+abbrev showing : (p pd pbd pdpast pbdpast : ℕ) → Registers
+showing p pd pbd pdpast pbdpast = registersOf (replicate 8 0 ++ (p ∷ 0 ∷ 0 ∷ 0 ∷ 0 ∷ 0 ∷ pd ∷ pbd ∷ pdpast ∷ pbdpast ∷ []))
 
 abbrev empty : Registers
 empty = registersOf []
@@ -82,13 +86,55 @@ pub record Clocks : Type 0 where
   pub two24 : (p-of (split 1) empty (given 56 0 0 0 0 0 0) bottom ≡ 16777215 * 2 ^ 24 + 4)
       × (p-of (split 1) empty (given 56 0 0 0 1 0 0) bottom ≡ 16777215 * 2 ^ 24 + 5)
   pub four12 : p-of (split 2) empty (given 56 0 0 0 1 0 0) bottom ≡ (4095 * 2 ^ 24 + 4095 * 2 ^ 12 + 4095) * 2 ^ 12 + 5
-  -- with PREG 1 the register P shows, and the falls of PD and PBD; with 0 the settled P, and no fall
-  pub shows-register : outputsWords (sliceOutputs registered fallen (given 3 0 0 0 0 0 0) bottom) ≡ 9 ∷ 0 ∷ 0 ∷ 1 ∷ 1 ∷ []
-  pub no-fall : outputsWords (sliceOutputs plain fallen (given 0 0 0 0 0 0 0) bottom) ≡ 0 ∷ 1 ∷ 0 ∷ 0 ∷ 0 ∷ []
+  -- with PREG 1 the registers show; with 0 what settles, and no flag
+  pub shows-register : outputsWords (sliceOutputs registered (showing 9 0 1 0 0) (given 3 0 0 0 0 0 0) bottom) ≡ 9 ∷ 0 ∷ 1 ∷ 0 ∷ 0 ∷ []
+  pub shows-settled : outputsWords (sliceOutputs plain (showing 9 0 1 0 0) (given 0 0 0 0 0 0 0) bottom) ≡ 0 ∷ 1 ∷ 0 ∷ 0 ∷ 0 ∷ []
   -- ACOUT and BCOUT: the first register where AREG is 2 and ACASCREG 1, else the path
   pub cascade-1 : (sliceCascade deep1 held (given 0 0 0 0 0 0 0) bottom .a ≡ 11) × (sliceCascade deep1 held (given 0 0 0 0 0 0 0) bottom .b ≡ 33)
   pub cascade-2 : (sliceCascade deep2 held (given 0 0 0 0 0 0 0) bottom .a ≡ 22) × (sliceCascade deep2 held (given 0 0 0 0 0 0 0) bottom .b ≡ 44)
   pub cascade-0 : (sliceCascade plain held (given 0 0 0 0 0 0 0) bottom .a ≡ 3) × (sliceCascade plain held (given 0 0 0 0 0 0 0) bottom .b ≡ 4)
+
+-- OVERFLOW and UNDERFLOW, as a slice shows them that holds PD, PBD, PDPAST and PBDPAST
+abbrev flags : Attributes → (pd pbd pdpast pbdpast : ℕ) → List ℕ
+flags a pd pbd pdpast pbdpast =
+    (sliceOutputs a (showing 0 pd pbd pdpast pbdpast) (given 0 0 0 0 0 0 0) bottom .overflow)
+    ∷ (sliceOutputs a (showing 0 pd pbd pdpast pbdpast) (given 0 0 0 0 0 0 0) bottom .underflow)
+    ∷ []
+
+-- what it shows with the mask of 46 bits once C was added to P, or taken from it (ALUMODE 0 or 3; OPMODE 44, CE P)
+abbrev added : (alumode c : ℕ) → Registers → List ℕ
+added alumode c r =
+    outputsWords
+    (sliceOutputs (masking (2 ^ 46 - 1))
+    (sliceNext (masking (2 ^ 46 - 1)) r (portsOf (0 ∷ 0 ∷ c ∷ 0 ∷ 44 ∷ alumode ∷ 0 ∷ 0 ∷ 0 ∷ 256 ∷ [])) bottom)
+    (given 0 0 0 0 0 0 0) bottom)
+
+-- 02, Ask 2
+pub record Flags : Type 0 where
+  -- PDPAST 1 and PBDPAST 0: OVERFLOW where PD and PBD are both 0, and only there; the second is a swing, for which 01's rule gave 1
+  pub over : flags registered 0 0 1 0 ≡ 1 ∷ 0 ∷ []
+  pub swung-down : flags registered 0 1 1 0 ≡ 0 ∷ 0 ∷ []
+  pub stays-up : flags registered 1 0 1 0 ≡ 0 ∷ 0 ∷ []
+  pub both-after-pd : flags registered 1 1 1 0 ≡ 0 ∷ 0 ∷ []
+  -- PDPAST 0 and PBDPAST 1: UNDERFLOW likewise
+  pub under : flags registered 0 0 0 1 ≡ 0 ∷ 1 ∷ []
+  pub swung-up : flags registered 1 0 0 1 ≡ 0 ∷ 0 ∷ []
+  pub stays-down : flags registered 0 1 0 1 ≡ 0 ∷ 0 ∷ []
+  pub both-after-pbd : flags registered 1 1 0 1 ≡ 0 ∷ 0 ∷ []
+  -- neither before, and both before
+  pub no-past : flags registered 0 0 0 0 ≡ 0 ∷ 0 ∷ []
+  pub both-past : flags registered 0 0 1 1 ≡ 1 ∷ 1 ∷ []
+  -- PREG 0
+  pub unregistered : flags plain 0 0 1 1 ≡ 0 ∷ 0 ∷ []
+  -- a mask of all 48 bits: PD and PBD load 1 both, and no flag follows
+  pub all-masked : (sliceNext (masking (2 ^ 48 - 1)) empty (given 12 0 0 0 0 256 0) bottom .pd ≡ 1)
+      × (sliceNext (masking (2 ^ 48 - 1)) empty (given 12 0 0 0 0 256 0) bottom .pbd ≡ 1)
+  pub none-of-all-masked : flags (masking (2 ^ 48 - 1)) 1 1 1 1 ≡ 0 ∷ 0 ∷ []
+  -- the last legal sums and the first outside, and a swing over the whole range each way
+  pub one-over : added 0 1 (showing (2 ^ 46 - 1) 1 0 0 0) ≡ 2 ^ 46 ∷ 0 ∷ 0 ∷ 1 ∷ 0 ∷ []
+  pub one-under : added 3 1 (showing (2 ^ 48 - 2 ^ 46) 0 1 0 0) ≡ (2 ^ 48 - 2 ^ 46 - 1) ∷ 0 ∷ 0 ∷ 0 ∷ 1 ∷ []
+  pub whole-swing-down : added 3 (2 ^ 47 - 1) (showing (2 ^ 46 - 1) 1 0 0 0) ≡ (2 ^ 48 - 2 ^ 46) ∷ 0 ∷ 1 ∷ 0 ∷ 0 ∷ []
+  pub whole-swing-up : added 0 (2 ^ 47 - 1) (showing (2 ^ 48 - 2 ^ 46) 0 1 0 0) ≡ (2 ^ 46 - 1) ∷ 1 ∷ 0 ∷ 0 ∷ 0 ∷ []
 
 pub record Edges : Type 0 where
   -- A2 loads A1 when AREG is 2, else the input; A1 loads the input
@@ -128,10 +174,33 @@ clocks =
       two24 = (refl, refl);
       four12 = refl;
       shows-register = refl;
-      no-fall = refl;
+      shows-settled = refl;
       cascade-1 = (refl, refl);
       cascade-2 = (refl, refl);
       cascade-0 = (refl, refl);
+    }
+
+pub flag-values : Flags
+unfolding sliceOutputs outputsOfSettled sliceNext nextOf edge load sliceSettled settledOf resultOf sliceOperands operandsOf selectsOf productOf leftOf rightOf adOf aSide dSide controlsOf pathsOf splitResult unitResult lanes arithmetic logicRows preAdder product detected unmasked
+flag-values =
+    record {
+      over = refl;
+      swung-down = refl;
+      stays-up = refl;
+      both-after-pd = refl;
+      under = refl;
+      swung-up = refl;
+      stays-down = refl;
+      both-after-pbd = refl;
+      no-past = refl;
+      both-past = refl;
+      unregistered = refl;
+      all-masked = (refl, refl);
+      none-of-all-masked = refl;
+      one-over = refl;
+      one-under = refl;
+      whole-swing-down = refl;
+      whole-swing-up = refl;
     }
 
 pub edges : Edges

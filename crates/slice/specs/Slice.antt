@@ -132,20 +132,20 @@ unfoldable pub sliceSettled : Attributes → Registers → Ports → Cascade →
 sliceSettled a r p x =
     settledOf a (productOf a r (controlsOf a r p) (pathsOf a r p x)) (resultOf (a .«use_simd») (controlsOf a r p .alumode) (sliceOperands a r p x))
 
--- a flag's fall from 1 to 0
-abbrev pub fall : (past now : ℕ) → ℕ
-fall past now = cond (eqb past 1 && eqb now 0) 1 0
+-- A past word 1 with PD and PBD both 0 (02, Ask 2): P matched, or differed in every bit, and now does neither
+abbrev pub strayed : (past pd pbd : ℕ) → ℕ
+strayed past pd pbd = cond (eqb past 1 && eqb pd 0 && eqb pbd 0) 1 0
 
--- With PREG 1 the outputs show registers P, PD, PBD; with 0, the settled values. OVERFLOW is PDPAST 1 with PD 0, UNDERFLOW is
--- PBDPAST 1 with PBD 0, read from the registers; both 0 when PREG is 0
+-- With PREG 1 the outputs show registers P, PD, PBD; with 0, the settled values. OVERFLOW is PDPAST 1, UNDERFLOW is PBDPAST 1, each
+-- with PD and PBD both 0 (02, Ask 2), read from the registers; both 0 when PREG is 0
 unfoldable pub outputsOfSettled : Attributes → Registers → Settled → Outputs
 outputsOfSettled a r t =
     record {
       p = mux (a .preg) (t .p) (r .p);
       patterndetect = mux (a .preg) (t .pd) (r .pd);
       patternbdetect = mux (a .preg) (t .pbd) (r .pbd);
-      overflow = mux (a .preg) 0 (fall (r .pdpast) (r .pd));
-      underflow = mux (a .preg) 0 (fall (r .pbdpast) (r .pbd));
+      overflow = mux (a .preg) 0 (strayed (r .pdpast) (r .pd) (r .pbd));
+      underflow = mux (a .preg) 0 (strayed (r .pbdpast) (r .pd) (r .pbd));
     }
 
 -- ACOUT is the A path, but A1 when AREG is 2 and ACASCREG is 1; B alike; PCOUT is the output P

@@ -1,7 +1,7 @@
 // One clock of a slice: what settles before the edge, what the slice then shows and hands up, and the registers after it.
 ghost use mathlib.Core.Path.{_≡_};
 ghost use Prim.Native.Nat.{_<_};
-ghost use Rattle.slice.specs.Slice.{settledOf, fall, outputsOfSettled, cascadeOf, edge, nextOf, stepOf};
+ghost use Rattle.slice.specs.Slice.{settledOf, outputsOfSettled, cascadeOf, edge, nextOf, stepOf};
 use crate::choice::bit;
 use crate::choice::mux;
 use crate::choice::pick;
@@ -47,21 +47,17 @@ fn settled_from(a: Attributes, t: Product, result: u64) -> Settled
     }
 }
 
-fn fall(past: u64, now: u64) -> u64
-    ensures { λ v. ⌜ v ≡ fall past now ⌝ }
-{
-    pick((past == 1) & (now == 0), 1, 0)
-}
-
 fn shown(a: Attributes, r: Registers, t: Settled) -> Outputs
     ensures { λ o. ⌜ o ≡ outputsOfSettled a r t ⌝ }
 {
+    // The gate of both flags: 1 with PREG 1 while PD and PBD are both 0.
+    let gate = mux(a.preg, 0, pick((r.pd == 0) & (r.pbd == 0), 1, 0));
     Outputs {
         p: mux(a.preg, t.p, r.p),
         patterndetect: mux(a.preg, t.pd, r.pd),
         patternbdetect: mux(a.preg, t.pbd, r.pbd),
-        overflow: mux(a.preg, 0, fall(r.pdpast, r.pd)),
-        underflow: mux(a.preg, 0, fall(r.pbdpast, r.pbd)),
+        overflow: mux(gate, 0, pick(r.pdpast == 1, 1, 0)),
+        underflow: mux(gate, 0, pick(r.pbdpast == 1, 1, 0)),
     }
 }
 
