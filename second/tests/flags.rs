@@ -3,7 +3,7 @@
 //! PATTERN 0 and MASK 2^46 - 1 leave bits 47 and 46 in sight: 00 is PD and 11
 //! is PBD, so the legal sums are those from -2^46 to 2^46 - 1.
 
-use second::calls::answer;
+mod one_slice;
 
 const ONES: u64 = (1 << 48) - 1;
 const HIGHEST: i64 = 70368744177663;
@@ -26,16 +26,7 @@ const RST_P: u64 = 32;
 fn clocked(preg: u64, registers: [u64; 18], ports: [u64; 11]) -> ([u64; 18], [u64; 5]) {
     let mut attributes = [0; 22];
     (attributes[10], attributes[20]) = (preg, HIGHEST as u64);
-    let lent: [&[u64]; 4] = [&attributes, &registers, &ports, &[9; 5]];
-    let mut call = String::from("clock 1");
-    for words in lent {
-        call += &format!(" {}", words.len());
-        words.iter().for_each(|word| call += &format!(" {word}"));
-    }
-    let reply: Vec<u64> =
-        answer(&call).unwrap().split(' ').map(|field| field.parse().unwrap()).collect();
-    assert_eq!((reply[0], reply[24], reply[55]), (0, 18, 5));
-    (reply[25..43].try_into().unwrap(), reply[56..].try_into().unwrap())
+    one_slice::clocked(&attributes, &registers, &ports)
 }
 
 /// The four marks shown while PD, PBD, PDPAST and PBDPAST are held and C settles.

@@ -1,6 +1,8 @@
 //! The split adder (02, Ask 1) by value: what each lane gives, worked out by hand.
 
-use second::calls::answer;
+mod one_slice;
+
+use one_slice::clocked;
 
 const ONES: u64 = (1 << 48) - 1;
 const ONE48: u64 = 0;
@@ -26,17 +28,8 @@ fn slice(lanes: u64, alumode: u64, [w, x, y, z]: [u64; 4], carryin: u64) -> Slic
 
 impl Slice {
     /// The registers after one accepted clock.
-    fn clocked(&self) -> Vec<u64> {
-        let lent: [&[u64]; 4] = [&self.attributes, &self.registers, &self.ports, &[0; 5]];
-        let mut call = String::from("clock 1");
-        for words in lent {
-            call += &format!(" {}", words.len());
-            words.iter().for_each(|word| call += &format!(" {word}"));
-        }
-        let reply: Vec<u64> =
-            answer(&call).unwrap().split(' ').map(|field| field.parse().unwrap()).collect();
-        assert_eq!((reply[0], reply[1], reply[24]), (0, 22, 18));
-        reply[25..43].to_vec()
+    fn clocked(&self) -> [u64; 18] {
+        clocked(&self.attributes, &self.registers, &self.ports).0
     }
 
     fn result(&self) -> u64 {
