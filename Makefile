@@ -1,4 +1,4 @@
-# The C side: the archive with its header, the bench and the benchmark on it, and the comparisons with the second program.
+# The C side: the archive with its header; the bench, the example and the benchmark on it; the comparisons with the second program.
 # Everything is built below build/. On x86-64 with the machine's compiler, elsewhere with a cross compiler and an emulator.
 PREFIX = /usr/local
 CFLAGS = -std=c99 -Wall -Wextra -pedantic -O2
@@ -46,17 +46,30 @@ header: include/dsp48e2.h
 	printf '#include "dsp48e2.h"\n' | cc -std=c99 -Wall -Wextra -pedantic -Werror -Iinclude -fsyntax-only -x c -
 	printf '#include "dsp48e2.h"\n' | c++ -std=c++17 -Wall -Wextra -pedantic -Werror -Iinclude -fsyntax-only -x c++ -
 
-build/bench: bench/bench.c model/column.c model/column.h build/libdsp48e2.a build/dsp48e2.h
-	scripts/x86-64 cc $(CFLAGS) -Ibuild -Imodel -o $@ bench/bench.c model/column.c build/libdsp48e2.a
+build/bench: bench/bench.c bench/why.c bench/bench.h model/column.c model/column.h build/libdsp48e2.a build/dsp48e2.h
+	scripts/x86-64 cc $(CFLAGS) -Ibuild -Imodel -o $@ bench/bench.c bench/why.c model/column.c build/libdsp48e2.a
 
-# Every call on the real archive, and CALLS random clocks against the plain model.
+# Every call on the real archive, and CALLS random clocks and whys against the plain model.
 bench: build/bench
 	scripts/x86-64 run build/bench $(SEED) $(CALLS)
 
+build/why: examples/why.c build/libdsp48e2.a build/dsp48e2.h
+	scripts/x86-64 cc $(CFLAGS) -Ibuild -o $@ examples/why.c build/libdsp48e2.a
+
+# The example in C prints what it must, byte for byte.
+example-why: build/why
+	scripts/x86-64 run build/why > build/why.out
+	cmp build/why.out examples/why.out
+
+# Every example: the one in C, and the listings by dspcol and by the second program.
+examples: example-why dspcol-built
+	DSPCOL='$(DSPCOL)' scripts/examples
+
 # The model's reader of calls, answered by the archive instead of the model.
 build/calls: model/calls.c model/column.h build/libdsp48e2.a
-	scripts/x86-64 cc $(CFLAGS) -Imodel -Dcolumn_adder=dsp_adder -Dcolumn_clock=dsp_clock -Dcolumn_clear=dsp_clear \
-	    -Dcolumn_packed=dsp_packed_clocked -Dcolumn_plain=dsp_packed_plain -o $@ model/calls.c build/libdsp48e2.a
+	scripts/x86-64 cc $(CFLAGS) -Imodel -Dcolumn_adder=dsp_adder -Dcolumn_clock=dsp_clock -Dcolumn_why=dsp_why \
+	    -Dcolumn_clear=dsp_clear -Dcolumn_packed=dsp_packed_clocked -Dcolumn_plain=dsp_packed_plain \
+	    -o $@ model/calls.c build/libdsp48e2.a
 
 build/answer: build/calls
 	printf '#!/bin/sh\nexec "%s/scripts/x86-64" run "%s/build/calls"\n' '$(CURDIR)' '$(CURDIR)' > $@
@@ -103,7 +116,7 @@ KIT_SIDE = $(if $(KIT_CLANG),build/kit-side.o)
 
 build/kit-side.o: model/column.c model/column.h
 	mkdir -p build
-	$(KIT_CC) $(foreach name,adder check_count check_attributes clock clear packed plain,-Dcolumn_$(name)=kit_$(name)) -c -o $@ model/column.c
+	$(KIT_CC) $(foreach name,adder check_count check_attributes clock why clear packed plain,-Dcolumn_$(name)=kit_$(name)) -c -o $@ model/column.c
 
 build/listing-kit: model/listing.c model/column.c model/column.h
 	mkdir -p build
@@ -152,4 +165,4 @@ cuts: build/cuts dspcol-built
 clean:
 	rm -rf build
 
-.PHONY: all archive install forms header bench dspcol-built benchmark soak compare compare-calls compare-long second-tests planted interactive cuts clean
+.PHONY: all archive install forms header bench example-why examples dspcol-built benchmark soak compare compare-calls compare-long second-tests planted interactive cuts clean

@@ -3,10 +3,10 @@
  *
  *   bench [SEED [CALLS]]
  *
- * The checks by hand come from the scope; then CALLS random calls are answered by the archive and by the plain model,
- * which was written apart from it. Prints what it did; fails on the first difference.
+ * The checks by hand come from the scope; then random calls, CALLS of clocks and of whys, are answered by the archive and by
+ * the plain model, which was written apart from it. Prints what it did; fails on the first difference.
  */
-#include "dsp48e2.h"
+#include "bench.h"
 #include "column.h"
 
 #include <inttypes.h>
@@ -14,12 +14,11 @@
 #include <stdlib.h>
 #include <string.h>
 
-#define MOST 25
 #define GUARD UINT64_C(0x5afe5afe5afe5afe)
 
 static unsigned long checks;
 
-static void expect(int holds, const char *what)
+void expect(int holds, const char *what)
 {
     checks++;
     if (!holds) {
@@ -28,24 +27,18 @@ static void expect(int holds, const char *what)
     }
 }
 
-static void expect_refusal(uint64_t word, unsigned number, unsigned place, const char *what)
+void expect_refusal(uint64_t word, unsigned number, unsigned place, const char *what)
 {
     expect(DSP_IS_REFUSED(word) && DSP_NUMBER(word) == number && DSP_PLACE(word) == place, what);
 }
 
 /* ---- lent words between guards */
 
-struct lent {
-    uint64_t words[2 + MOST * DSP_ATTRIBUTE_WORDS];
-    uint64_t before[2 + MOST * DSP_ATTRIBUTE_WORDS];
-    size_t length;
-};
+struct lent attributes, registers, ports, outputs;
 
-static struct lent attributes, registers, ports, outputs;
+uint64_t *lend(struct lent *lent) { return lent->words + 1; }
 
-static uint64_t *lend(struct lent *lent) { return lent->words + 1; }
-
-static void fill(struct lent *lent, size_t length, uint64_t value)
+void fill(struct lent *lent, size_t length, uint64_t value)
 {
     lent->length = length;
     lent->words[0] = GUARD;
@@ -54,19 +47,19 @@ static void fill(struct lent *lent, size_t length, uint64_t value)
     lent->words[1 + length] = GUARD;
 }
 
-static void keep(struct lent *lent) { memcpy(lent->before, lent->words, sizeof lent->words); }
+void keep(struct lent *lent) { memcpy(lent->before, lent->words, sizeof lent->words); }
 
-static int kept(const struct lent *lent)
+int kept(const struct lent *lent)
 {
     return memcmp(lent->before, lent->words, (lent->length + 2) * sizeof lent->words[0]) == 0;
 }
 
-static int guarded(const struct lent *lent)
+int guarded(const struct lent *lent)
 {
     return lent->words[0] == GUARD && lent->words[1 + lent->length] == GUARD;
 }
 
-static void cleared_column(size_t count)
+void cleared_column(size_t count)
 {
     fill(&attributes, count * DSP_ATTRIBUTE_WORDS, 0);
     fill(&registers, count * DSP_REGISTER_WORDS, 0);
@@ -74,7 +67,7 @@ static void cleared_column(size_t count)
     fill(&outputs, count * DSP_OUTPUT_WORDS, 77);
 }
 
-static uint64_t clock_of(uint64_t count)
+uint64_t clock_of(uint64_t count)
 {
     keep(&attributes);
     keep(&registers);
@@ -351,7 +344,7 @@ static void packed_by_hand(void)
 
 static uint64_t state;
 
-static uint64_t draw(void)
+uint64_t draw(void)
 {
     state += UINT64_C(0x9e3779b97f4a7c15);
     uint64_t z = state;
@@ -416,17 +409,23 @@ static void draw_slice(uint64_t *a, uint64_t *r, uint64_t *p)
     r[DSP_REGISTER_CARRYINSEL] = draw() % 2 * 3;
 }
 
+size_t draw_column(void)
+{
+    size_t count = 1 + draw() % (draw() % 16 ? 3 : DSP_MOST_SLICES);
+    cleared_column(count);
+    for (size_t k = 0; k < count; k++)
+        draw_slice(lend(&attributes) + DSP_ATTRIBUTE_WORDS * k, lend(&registers) + DSP_REGISTER_WORDS * k,
+                   lend(&ports) + DSP_PORT_WORDS * k);
+    return count;
+}
+
 /* The slices of accepted clocks, by their lanes. */
 static unsigned long accepted_in[3];
 
 static void random_clock(unsigned long *accepted)
 {
     static uint64_t other_registers[MOST * DSP_REGISTER_WORDS], other_outputs[MOST * DSP_OUTPUT_WORDS];
-    size_t count = 1 + draw() % (draw() % 16 ? 3 : DSP_MOST_SLICES);
-    cleared_column(count);
-    for (size_t k = 0; k < count; k++)
-        draw_slice(lend(&attributes) + DSP_ATTRIBUTE_WORDS * k, lend(&registers) + DSP_REGISTER_WORDS * k,
-                   lend(&ports) + DSP_PORT_WORDS * k);
+    size_t count = draw_column();
     memcpy(other_registers, lend(&registers), registers.length * sizeof other_registers[0]);
     memcpy(other_outputs, lend(&outputs), outputs.length * sizeof other_outputs[0]);
     uint64_t other = column_clock(count, lend(&attributes), attributes.length, other_registers, registers.length,
@@ -463,11 +462,8 @@ static void random_packed(uint64_t terms, uint64_t rows)
     expect(memcmp(answers, other_answers, sums * sizeof answers[0]) == 0, "the plain run's answers");
 }
 
-int main(int argc, char **argv)
+static void by_hand(void)
 {
-    unsigned long calls = argc > 2 ? strtoul(argv[2], NULL, 10) : 100000, accepted = 0;
-    state = argc > 1 ? strtoul(argv[1], NULL, 10) : 1;
-    printf("header %d.%d\n", DSP_VERSION_MAJOR, DSP_VERSION_MINOR);
     heights();
     lengths();
     limits(&attributes, attribute_widths, DSP_ATTRIBUTE_WORDS, DSP_BAD_ATTRIBUTE);
@@ -480,9 +476,18 @@ int main(int argc, char **argv)
     lanes();
     flags_by_registers();
     sums_and_flags();
+    why_by_hand();
     clearing();
     adder();
     packed_by_hand();
+}
+
+int main(int argc, char **argv)
+{
+    unsigned long calls = argc > 2 ? strtoul(argv[2], NULL, 10) : 100000, accepted = 0;
+    state = argc > 1 ? strtoul(argv[1], NULL, 10) : 1;
+    printf("header %d.%d\n", DSP_VERSION_MAJOR, DSP_VERSION_MINOR);
+    by_hand();
     printf("by hand: %lu checks\n", checks);
     for (unsigned long i = 0; i < calls; i++) {
         random_clock(&accepted);
@@ -497,5 +502,6 @@ int main(int argc, char **argv)
         for (uint64_t rows = 1; rows <= DSP_MOST_ROWS; rows *= 8)
             random_packed(terms, rows);
     printf("packed: 1 to 7 terms, 1 to 4,096 rows, 0 differences\n");
+    random_whys(calls);
     return 0;
 }

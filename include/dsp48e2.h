@@ -3,7 +3,8 @@
  *
  * All lent words are uint64_t and hold unsigned bit patterns, slice 0 (the bottom) first; a slice's words stand in the
  * order of the enums below. Every call takes whatever it is given: any number, any length, a null pointer with length 0.
- * What is malformed or forbidden is refused, and a refused call changes no lent word.
+ * What is malformed or forbidden is refused, and a refused call changes no lent word, but that a refused dsp_why leaves
+ * zeros in the place of its answer.
  *
  * A refusal is DSP_REFUSED + 256 * place + number in the returned word, and nothing else is that large; the place is the
  * lowest slice that fails the check of that number.
@@ -22,10 +23,11 @@ extern "C" {
  * The version of this header. The major number rises when a count or a meaning changes, the minor one when something comes
  * to it that changes neither. Major 1 had 21 attributes a slice, major 2 has 22. A caller that was compiled against older
  * counts lends other lengths than are required, and is refused by number 2. Major 3 has the counts of major 2, and other
- * OVERFLOW and UNDERFLOW: a P that swings through 0 within its range shows neither any more.
+ * OVERFLOW and UNDERFLOW: a P that swings through 0 within its range shows neither any more. Version 3.1 adds dsp_why with
+ * its enums, and number 13; what 3.0 has is as it was.
  */
 #define DSP_VERSION_MAJOR 3
-#define DSP_VERSION_MINOR 0
+#define DSP_VERSION_MINOR 1
 
 /* The refusal rule, and what takes a refusal apart. */
 #define DSP_REFUSED (UINT64_C(1) << 48)
@@ -46,7 +48,8 @@ enum dsp_number {
     DSP_BAD_ALUMODE = 8,    /* ALUMODE in effect is forbidden */
     DSP_BAD_CARRYINSEL = 9, /* CARRYINSEL in effect is forbidden */
     DSP_BAD_TERMS = 10,     /* packed run: terms not 1 to 7 */
-    DSP_BAD_ROWS = 11       /* packed run: rows not 1 to 4,096 */
+    DSP_BAD_ROWS = 11,      /* packed run: rows not 1 to 4,096 */
+    DSP_BAD_SLICE = 13      /* the asked slice is at or above the count */
 };
 
 #define DSP_MOST_SLICES 24
@@ -207,6 +210,84 @@ uint64_t dsp_clock(uint64_t count,
                    uint64_t *registers, size_t registers_length,
                    const uint64_t *ports, size_t ports_length,
                    uint64_t *outputs, size_t outputs_length);
+
+/*
+ * The words of the answer to "why this P?". W, X, Y and Z are 48-bit patterns; CIN is 0 or 1, and given in the logic modes
+ * too, which ignore it. A place is one of enum dsp_place, the rule one of enum dsp_rule; the lanes are USE_SIMD as it is
+ * set, in the logic modes too. The result is what the unit settles to: with PREG 0 it is shown as P, and register P loads
+ * it where CE P is set and RST P is not.
+ */
+enum dsp_why {
+    DSP_WHY_W = 0,
+    DSP_WHY_X = 1,
+    DSP_WHY_Y = 2,
+    DSP_WHY_Z = 3,
+    DSP_WHY_CIN = 4,
+    DSP_WHY_W_PLACE = 5,
+    DSP_WHY_X_PLACE = 6,
+    DSP_WHY_Y_PLACE = 7,
+    DSP_WHY_Z_PLACE = 8,
+    DSP_WHY_CIN_PLACE = 9,
+    DSP_WHY_RULE = 10,
+    DSP_WHY_LANES = 11,
+    DSP_WHY_RESULT = 12,
+    DSP_WHY_WORDS = 13
+};
+
+/* Where an operand was selected from: what its select says, whatever the value is. */
+enum dsp_place {
+    DSP_PLACE_ZERO = 0,            /* nothing is selected; also Y where X and Y both select M, which is whole in X */
+    DSP_PLACE_M = 1,               /* M, sign-extended to 48 bits */
+    DSP_PLACE_P = 2,               /* register P */
+    DSP_PLACE_AB = 3,              /* A:B, the A path above the B path */
+    DSP_PLACE_ONES = 4,            /* all ones */
+    DSP_PLACE_C = 5,               /* the C path */
+    DSP_PLACE_PCIN = 6,            /* the P that the slice below shows, 0 at the bottom */
+    DSP_PLACE_PCIN_SHIFTED = 7,    /* PCIN shifted right by 17, keeping the sign */
+    DSP_PLACE_P_SHIFTED = 8,       /* register P shifted right by 17, keeping the sign */
+    DSP_PLACE_RND = 9,             /* attribute RND */
+    DSP_PLACE_CARRYIN = 10,        /* the CARRYIN path */
+    DSP_PLACE_PCIN_BIT47 = 11,     /* the sign of PCIN */
+    DSP_PLACE_NOT_PCIN_BIT47 = 12, /* 1 where the sign of PCIN is 0 */
+    DSP_PLACE_P_BIT47 = 13,        /* the sign of register P */
+    DSP_PLACE_NOT_P_BIT47 = 14     /* 1 where the sign of register P is 0 */
+};
+
+/*
+ * What is done with the operands: one number for one function, whatever the mode. Rules 1 to 4 are worked in the lanes of
+ * USE_SIMD, each lane modulo its own width and CIN in the lowest; the others are worked on 48 bits, of X and Z alone.
+ */
+enum dsp_rule {
+    DSP_RULE_NONE = 0,        /* in a refused answer alone */
+    DSP_RULE_SUM = 1,         /* Z + W + X + Y + CIN */
+    DSP_RULE_SUM_NOT_Z = 2,   /* (2^48 - 1 - Z) + W + X + Y + CIN */
+    DSP_RULE_NOT_SUM = 3,     /* 2^48 - 1 - (Z + W + X + Y + CIN) */
+    DSP_RULE_DIFFERENCE = 4,  /* Z - (W + X + Y + CIN) */
+    DSP_RULE_XOR = 5,         /* X xor Z */
+    DSP_RULE_XNOR = 6,        /* not (X xor Z) */
+    DSP_RULE_AND = 7,         /* X and Z */
+    DSP_RULE_OR = 8,          /* X or Z */
+    DSP_RULE_AND_NOT_Z = 9,   /* X and not Z */
+    DSP_RULE_OR_NOT_Z = 10,   /* X or not Z */
+    DSP_RULE_NAND = 11,       /* not (X and Z) */
+    DSP_RULE_NOR = 12,        /* not (X or Z) */
+    DSP_RULE_NOT_X_OR_Z = 13, /* not X, or Z */
+    DSP_RULE_NOT_X_AND_Z = 14 /* not X, and Z */
+};
+
+/*
+ * Where the P of one slice comes from, in the clock that dsp_clock makes of the same words. Lent: DSP_ATTRIBUTE_WORDS,
+ * DSP_REGISTER_WORDS and DSP_PORT_WORDS words for each of count slices, and DSP_WHY_WORDS words for the answer, each with
+ * its length in words. Returns 0, and leaves in why what settles in that slice before the edge; or a refusal: numbers 1
+ * and 2, then 13 at place 0, then 3 to 9 over the whole column as for a clock. A refusal leaves zeros in why; a why of
+ * another length is left as it was. Nothing else that is lent changes.
+ */
+uint64_t dsp_why(uint64_t count,
+                 const uint64_t *attributes, size_t attributes_length,
+                 const uint64_t *registers, size_t registers_length,
+                 const uint64_t *ports, size_t ports_length,
+                 uint64_t slice,
+                 uint64_t *why, size_t why_length);
 
 /* Sets every register of count slices to 0. Returns 0, or a refusal: number 1, then 2. */
 uint64_t dsp_clear(uint64_t count, uint64_t *registers, size_t registers_length);

@@ -134,6 +134,21 @@ static void call_clock(void)
     print_stretch(out);
 }
 
+static void call_why(void)
+{
+    uint64_t count = read_word(), slice;
+    struct stretch at = read_stretch(), rg = read_stretch(), po = read_stretch(), why;
+
+    slice = read_word();
+    why = read_stretch();
+    print_word(column_why(count, at.words, at.length, rg.words, rg.length,
+                          po.words, po.length, slice, why.words, why.length));
+    print_stretch(at);
+    print_stretch(rg);
+    print_stretch(po);
+    print_stretch(why);
+}
+
 static void call_clear(void)
 {
     uint64_t count = read_word();
@@ -208,6 +223,8 @@ int main(void)
             call_adder();
         else if (!strcmp(name, "clock"))
             call_clock();
+        else if (!strcmp(name, "why"))
+            call_why();
         else if (!strcmp(name, "clear"))
             call_clear();
         else if (!strcmp(name, "packed"))

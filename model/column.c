@@ -10,6 +10,7 @@ typedef char attributes_are_22_words[ATTRIBUTE_WORDS == 22 ? 1 : -1];
 typedef char registers_are_18_words[REGISTER_WORDS == 18 ? 1 : -1];
 typedef char ports_are_11_words[PORT_WORDS == 11 ? 1 : -1];
 typedef char outputs_are_5_words[OUTPUT_WORDS == 5 ? 1 : -1];
+typedef char why_is_13_words[WHY_WORDS == 13 ? 1 : -1];
 
 static const unsigned register_width[] = {
     30, 30, 18, 18, 48, 27, 27, 45, 48, 9, 4, 5, 3, 1, 1, 1, 1, 1
@@ -442,6 +443,136 @@ uint64_t column_clear(uint64_t count, uint64_t *registers, size_t registers_leng
     if (registers_length != count * REGISTER_WORDS)
         return refusal(2, 0);
     memset(registers, 0, registers_length * sizeof *registers);
+    return 0;
+}
+
+/* ---- why this P ---- */
+
+enum {
+    PLACE_ZERO, PLACE_M, PLACE_P, PLACE_AB, PLACE_ONES, PLACE_C, PLACE_PCIN,
+    PLACE_PCIN_SHIFTED, PLACE_P_SHIFTED, PLACE_RND, PLACE_CARRYIN,
+    PLACE_PCIN_SIGN, PLACE_NOT_PCIN_SIGN, PLACE_P_SIGN, PLACE_NOT_P_SIGN, PLACES
+};
+enum {
+    RULE_NONE, RULE_SUM, RULE_SUM_NOT_Z, RULE_NOT_SUM, RULE_DIFFERENCE,
+    RULE_XOR, RULE_XNOR, RULE_AND, RULE_OR, RULE_AND_NOT_Z, RULE_OR_NOT_Z,
+    RULE_NAND, RULE_NOR, RULE_NOT_X_OR_Z, RULE_NOT_X_AND_Z
+};
+
+/* The place that each select takes; those that are refused never get here. */
+static const uint64_t w_from[] = { PLACE_ZERO, PLACE_P, PLACE_RND, PLACE_C };
+static const uint64_t x_from[] = { PLACE_ZERO, PLACE_M, PLACE_P, PLACE_AB };
+static const uint64_t y_from[] = { PLACE_ZERO, PLACE_ZERO, PLACE_ONES, PLACE_C };
+static const uint64_t z_from[] = {
+    PLACE_ZERO, PLACE_PCIN, PLACE_P, PLACE_C,
+    PLACE_ZERO, PLACE_PCIN_SHIFTED, PLACE_P_SHIFTED, PLACE_ZERO
+};
+static const uint64_t cin_from[] = {
+    PLACE_CARRYIN, PLACE_NOT_PCIN_SIGN, PLACE_ZERO, PLACE_PCIN_SIGN,
+    PLACE_ZERO, PLACE_NOT_P_SIGN, PLACE_ZERO, PLACE_P_SIGN
+};
+
+static uint64_t rule_of(uint64_t alumode, int y_is_ones)
+{
+    switch (alumode) {
+    case 0: return RULE_SUM;
+    case 1: return RULE_SUM_NOT_Z;
+    case 2: return RULE_NOT_SUM;
+    case 3: return RULE_DIFFERENCE;
+    case 4: case 7: return y_is_ones ? RULE_XNOR : RULE_XOR;
+    case 5: case 6: return y_is_ones ? RULE_XOR : RULE_XNOR;
+    case 12: return y_is_ones ? RULE_OR : RULE_AND;
+    case 13: return y_is_ones ? RULE_OR_NOT_Z : RULE_AND_NOT_Z;
+    case 14: return y_is_ones ? RULE_NOR : RULE_NAND;
+    case 15: return y_is_ones ? RULE_NOT_X_AND_Z : RULE_NOT_X_OR_Z;
+    default: return RULE_NONE;
+    }
+}
+
+/* What stands in each place, from the registers before and after an edge that loads them all. */
+static void fill_places(const struct attributes *at, const struct registers *before,
+                        const struct registers *after, uint64_t pcin, uint64_t *value)
+{
+    uint64_t apath = (at->areg ? before : after)->a2;
+    uint64_t bpath = (at->breg ? before : after)->b2;
+
+    value[PLACE_ZERO] = 0;
+    value[PLACE_M] = extend45((at->mreg ? before : after)->m);
+    value[PLACE_P] = before->p;
+    value[PLACE_AB] = apath << 18 | bpath;
+    value[PLACE_ONES] = ONES48;
+    value[PLACE_C] = (at->creg ? before : after)->c;
+    value[PLACE_PCIN] = pcin;
+    value[PLACE_PCIN_SHIFTED] = shift17(pcin);
+    value[PLACE_P_SHIFTED] = shift17(before->p);
+    value[PLACE_RND] = at->rnd;
+    value[PLACE_CARRYIN] = (at->carryinreg ? before : after)->carryin;
+    value[PLACE_PCIN_SIGN] = pcin >> 47;
+    value[PLACE_NOT_PCIN_SIGN] = !(pcin >> 47);
+    value[PLACE_P_SIGN] = before->p >> 47;
+    value[PLACE_NOT_P_SIGN] = !(before->p >> 47);
+}
+
+static void explain(const struct attributes *at, const struct registers *before,
+                    const struct registers *after, uint64_t pcin, struct why *why)
+{
+    uint64_t opmode = (at->opmodereg ? before : after)->opmode;
+    uint64_t alumode = (at->alumodereg ? before : after)->alumode;
+    uint64_t value[PLACES];
+
+    fill_places(at, before, after, pcin, value);
+    why->w_place = w_from[opmode >> 7];
+    why->x_place = x_from[opmode & 3];
+    why->y_place = y_from[opmode >> 2 & 3];
+    why->z_place = z_from[opmode >> 4 & 7];
+    why->cin_place = cin_from[(at->carryinselreg ? before : after)->carryinsel];
+    why->w = value[why->w_place];
+    why->x = value[why->x_place];
+    why->y = value[why->y_place];
+    why->z = value[why->z_place];
+    why->cin = value[why->cin_place];
+    why->rule = rule_of(alumode, why->y_place == PLACE_ONES);
+    why->lanes = at->use_simd;
+    why->result = after->p;
+}
+
+/*
+ * Asks the clock itself, on copies. A register loads even when it is bypassed,
+ * so once the asked slice has loaded them all, each path is the register before
+ * the edge where it is read, else the register after it, and P is the result.
+ */
+uint64_t column_why(uint64_t count,
+                    const uint64_t *attributes, size_t attributes_length,
+                    const uint64_t *registers, size_t registers_length,
+                    const uint64_t *ports, size_t ports_length,
+                    uint64_t slice,
+                    uint64_t *why, size_t why_length)
+{
+    const struct attributes *at = (const struct attributes *)attributes;
+    const struct registers *rg = (const struct registers *)registers;
+    struct registers after[COLUMN_TALLEST];
+    struct ports po[COLUMN_TALLEST];
+    struct outputs out[COLUMN_TALLEST];
+    uint64_t refused = column_check_count(count);
+
+    if (why_length == WHY_WORDS)
+        memset(why, 0, sizeof(struct why));
+    if (refused)
+        return refused;
+    if (attributes_length != count * ATTRIBUTE_WORDS || registers_length != count * REGISTER_WORDS ||
+        ports_length != count * PORT_WORDS || why_length != WHY_WORDS)
+        return refusal(2, 0);
+    if (slice >= count)
+        return refusal(13, 0);
+    memcpy(after, registers, count * sizeof after[0]);
+    memcpy(po, ports, count * sizeof po[0]);
+    po[slice].ce |= ONES(13); /* bits over the width stay, and are refused */
+    po[slice].rst &= ~ONES(10);
+    refused = column_clock(count, attributes, attributes_length, (uint64_t *)after, registers_length,
+                           (const uint64_t *)po, ports_length, (uint64_t *)out, count * OUTPUT_WORDS);
+    if (refused)
+        return refused;
+    explain(&at[slice], &rg[slice], &after[slice], slice ? out[slice - 1].p : 0, (struct why *)why);
     return 0;
 }
 

@@ -39,10 +39,18 @@ struct outputs {
     uint64_t p, patterndetect, patternbdetect, overflow, underflow;
 };
 
+/* Where a slice's P came from: the settled operands, the place of each, the rule. */
+struct why {
+    uint64_t w, x, y, z, cin;
+    uint64_t w_place, x_place, y_place, z_place, cin_place;
+    uint64_t rule, lanes, result;
+};
+
 #define ATTRIBUTE_WORDS (sizeof(struct attributes) / sizeof(uint64_t))
 #define REGISTER_WORDS (sizeof(struct registers) / sizeof(uint64_t))
 #define PORT_WORDS (sizeof(struct ports) / sizeof(uint64_t))
 #define OUTPUT_WORDS (sizeof(struct outputs) / sizeof(uint64_t))
+#define WHY_WORDS (sizeof(struct why) / sizeof(uint64_t))
 
 /* The adder alone: its result, or 2^48+5, or 2^48+8. */
 uint64_t column_adder(uint64_t w, uint64_t x, uint64_t y, uint64_t z,
@@ -54,6 +62,17 @@ uint64_t column_clock(uint64_t count,
                       uint64_t *registers, size_t registers_length,
                       const uint64_t *ports, size_t ports_length,
                       uint64_t *outputs, size_t outputs_length);
+
+/*
+ * Where the P of one slice comes from in this clock: 0, or a refusal, which
+ * leaves zeros in why. A why of another length is left as it was.
+ */
+uint64_t column_why(uint64_t count,
+                    const uint64_t *attributes, size_t attributes_length,
+                    const uint64_t *registers, size_t registers_length,
+                    const uint64_t *ports, size_t ports_length,
+                    uint64_t slice,
+                    uint64_t *why, size_t why_length);
 
 /* Sets all registers to 0: 0, or a refusal. */
 uint64_t column_clear(uint64_t count, uint64_t *registers, size_t registers_length);

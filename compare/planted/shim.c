@@ -12,6 +12,8 @@ struct lent {
 uint64_t unproved_adder(uint64_t w, uint64_t x, uint64_t y, uint64_t z, uint64_t cin, uint64_t alumode);
 uint64_t unproved_clock(uint64_t count, const struct lent *attributes, const struct lent *registers, const struct lent *ports,
                         const struct lent *outputs);
+uint64_t unproved_why(uint64_t count, const struct lent *attributes, const struct lent *registers, const struct lent *ports,
+                      uint64_t slice, const struct lent *why);
 uint64_t unproved_clear(uint64_t count, const struct lent *registers);
 uint64_t unproved_packed_clocked(uint64_t terms, uint64_t rows, const struct lent *a, const struct lent *d, const struct lent *b,
                                  const struct lent *answers, const struct lent *list);
@@ -29,6 +31,14 @@ uint64_t dsp_clock(uint64_t count, const uint64_t *attributes, size_t attributes
     struct lent a = { attributes, attributes_length }, r = { registers, registers_length };
     struct lent p = { ports, ports_length }, o = { outputs, outputs_length };
     return unproved_clock(count, &a, &r, &p, &o);
+}
+
+uint64_t dsp_why(uint64_t count, const uint64_t *attributes, size_t attributes_length, const uint64_t *registers, size_t registers_length,
+                 const uint64_t *ports, size_t ports_length, uint64_t slice, uint64_t *why, size_t why_length)
+{
+    struct lent a = { attributes, attributes_length }, r = { registers, registers_length };
+    struct lent p = { ports, ports_length }, y = { why, why_length };
+    return unproved_why(count, &a, &r, &p, slice, &y);
 }
 
 uint64_t dsp_clear(uint64_t count, uint64_t *registers, size_t registers_length)

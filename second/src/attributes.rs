@@ -21,12 +21,12 @@ pub struct Pipeline {
     pub from_below: bool,
 }
 
-/// How the unit's 48 bits are parted in the arithmetic modes.
+/// How the unit's 48 bits are parted in the arithmetic modes, by the setting.
 #[derive(Clone, Copy, Debug, PartialEq, Eq)]
 pub enum Lanes {
-    One48,
-    Two24,
-    Four12,
+    One48 = 0,
+    Two24 = 1,
+    Four12 = 2,
 }
 
 impl Lanes {

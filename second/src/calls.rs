@@ -7,6 +7,7 @@ use crate::alu::adder;
 use crate::column::{clear, clock, LentClock};
 use crate::packed::{clocked, plain, Triples};
 use crate::refusal::returned;
+use crate::why::{why, LentWhy};
 
 /// Answers every line with one line.
 pub fn answer_all(input: impl BufRead, mut output: impl Write) -> io::Result<()> {
@@ -28,6 +29,7 @@ pub fn answer(line: &str) -> Option<String> {
         "clear" => clear_call(&mut fields)?,
         "packed" => packed_call(&mut fields)?,
         "plain" => plain_call(&mut fields)?,
+        "why" => why_call(&mut fields)?,
         _ => return None,
     };
     // A field too many means the lengths were miscounted.
@@ -143,4 +145,18 @@ fn plain_call(fields: &mut Fields) -> Option<String> {
     let (triples, answers) = packed.lend();
     let word = returned(plain(triples, answers));
     Some(packed.reply(word).0)
+}
+
+fn why_call(fields: &mut Fields) -> Option<String> {
+    let count = fields.one()?;
+    let attributes: Vec<u64> = fields.stretch()?;
+    let registers: Vec<u64> = fields.stretch()?;
+    let ports: Vec<u64> = fields.stretch()?;
+    let slice = fields.one()?;
+    let mut words: Vec<u64> = fields.stretch()?;
+    let lent =
+        LentWhy { attributes: &attributes, registers: &registers, ports: &ports, why: &mut words };
+    let word = returned(why(count, lent, slice).map(|()| 0));
+    let reply = Reply::new(word).stretch(&attributes).stretch(&registers);
+    Some(reply.stretch(&ports).stretch(&words).0)
 }

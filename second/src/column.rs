@@ -33,9 +33,11 @@ impl Column {
         Column { attributes, registers }
     }
 
-    /// A column found in the middle of its life.
-    pub fn found(attributes: Vec<Attributes>, registers: Vec<Registers>) -> Column {
-        Column { attributes, registers }
+    /// A column found in the middle of its life; its settings are judged first.
+    pub fn found(attributes: &[u64], registers: &[u64]) -> Result<Column, Refusal> {
+        let attributes = read_attributes(attributes)?;
+        let kept = registers.chunks(Registers::WORDS).map(Registers::read);
+        Ok(Column { attributes, registers: each_slice(kept, Reason::Register)? })
     }
 
     pub fn registers(&self) -> &[Registers] {
@@ -44,19 +46,23 @@ impl Column {
 
     /// One clock from port words; a refused clock changes nothing.
     pub fn clock_words(&mut self, words: &[u64]) -> Result<Vec<Outputs>, Refusal> {
-        let ports = each_slice(words.chunks(Ports::WORDS).map(Ports::read), Reason::Port)?;
-        self.clock(&ports)
+        self.clock(&read_ports(words)?)
     }
 
     /// One clock from ports that keep their widths.
     pub fn clock(&mut self, ports: &[Ports]) -> Result<Vec<Outputs>, Refusal> {
-        let controls = self.judge(ports)?;
-        let shown = self.settle(ports, &controls);
+        let shown = self.settled(ports)?;
         // Every wire has settled, so no slice can see another's new registers.
         for (k, register) in self.registers.iter_mut().enumerate() {
             *register = edge(&self.attributes[k], register, &ports[k], &shown[k]);
         }
         Ok(shown.iter().map(|slice| slice.outputs).collect())
+    }
+
+    /// What settles before the edge of a clock that is accepted.
+    pub fn settled(&self, ports: &[Ports]) -> Result<Vec<Shown>, Refusal> {
+        let controls = self.judge(ports)?;
+        Ok(self.settle(ports, &controls))
     }
 
     /// Each check goes over all slices before the next one starts.
@@ -118,16 +124,12 @@ pub struct LentClock<'a> {
 /// One clock over lent words, with every check in its order.
 pub fn clock(count: u64, lent: LentClock) -> Result<(), Refusal> {
     let height = height(count)?;
-    let right = lent.attributes.len() == height * Attributes::WORDS
-        && lent.registers.len() == height * Registers::WORDS
-        && lent.ports.len() == height * Ports::WORDS
+    let right = lengths_fit(height, lent.attributes, lent.registers, lent.ports)
         && lent.outputs.len() == height * Outputs::WORDS;
     if !right {
         return Err(Refusal::whole(Reason::Length));
     }
-    let attributes = read_attributes(lent.attributes)?;
-    let kept = lent.registers.chunks(Registers::WORDS).map(Registers::read);
-    let mut column = Column::found(attributes, each_slice(kept, Reason::Register)?);
+    let mut column = Column::found(lent.attributes, lent.registers)?;
     let outputs = column.clock_words(lent.ports)?;
     for (k, register) in column.registers().iter().enumerate() {
         lent.registers[k * Registers::WORDS..][..Registers::WORDS]
@@ -137,9 +139,21 @@ pub fn clock(count: u64, lent: LentClock) -> Result<(), Refusal> {
     Ok(())
 }
 
+/// Tells whether these are the words of so many slices.
+pub fn lengths_fit(height: usize, attributes: &[u64], registers: &[u64], ports: &[u64]) -> bool {
+    attributes.len() == height * Attributes::WORDS
+        && registers.len() == height * Registers::WORDS
+        && ports.len() == height * Ports::WORDS
+}
+
 /// The settings of all slices, or the lowest slice that has a wrong one.
 pub fn read_attributes(words: &[u64]) -> Result<Vec<Attributes>, Refusal> {
     each_slice(words.chunks(Attributes::WORDS).map(Attributes::read), Reason::Attribute)
+}
+
+/// The ports of all slices, or the lowest slice that has a word over its width.
+pub fn read_ports(words: &[u64]) -> Result<Vec<Ports>, Refusal> {
+    each_slice(words.chunks(Ports::WORDS).map(Ports::read), Reason::Port)
 }
 
 /// Clears lent registers, whatever they held.

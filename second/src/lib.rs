@@ -15,4 +15,6 @@ pub mod packed;
 pub mod ports;
 pub mod refusal;
 pub mod registers;
+pub mod selection;
 pub mod slice;
+pub mod why;

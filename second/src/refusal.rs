@@ -15,6 +15,7 @@ pub enum Reason {
     Terms = 10,
     Rows = 11,
     Line = 12,
+    Slice = 13,
 }
 
 /// A reason and the place it was met: a slice, or a line for `Line`.

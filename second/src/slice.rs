@@ -1,11 +1,12 @@
 //! One slice: what its wires settle to, and what its edge loads.
 
-use crate::alu::{self, Operands};
-use crate::attributes::{Attributes, Pipeline, Stages};
+use crate::alu;
+use crate::attributes::{Attributes, Lanes, Pipeline, Stages};
 use crate::bits::{pattern, wrap};
 use crate::control::{AluMode, CarryInSel, InMode, OpMode, W, X, Y, Z};
 use crate::ports::{Enable, Ports, Reset};
 use crate::registers::Registers;
+use crate::selection::{Place, Selected, Selection};
 
 /// What a slice hands to the one above it; the default lies below slice 0.
 #[derive(Clone, Copy, Debug, Default)]
@@ -48,6 +49,15 @@ impl Outputs {
     }
 }
 
+/// The unit in one clock: its settings, what was selected for it, its result.
+#[derive(Clone, Copy, Debug)]
+pub struct Unit {
+    pub mode: AluMode,
+    pub lanes: Lanes,
+    pub selection: Selection,
+    pub result: i64,
+}
+
 /// Every wire the edge or the outside looks at, before the edge.
 #[derive(Clone, Copy, Debug)]
 pub struct Shown {
@@ -55,7 +65,7 @@ pub struct Shown {
     b_input: i64,
     ad: i64,
     product: i64,
-    result: i64,
+    pub unit: Unit,
     pd: bool,
     pbd: bool,
     pub outputs: Outputs,
@@ -81,19 +91,18 @@ impl Wired<'_> {
         let b_path = path(&att.b, b_input, reg.b2);
         let (ad, product) = self.multiply(a_path, b_path);
         let m_path = if att.m_held { reg.m } else { product };
-        let operands = self.operands(a_path, b_path, m_path);
-        let result = alu::settle(self.controls.alumode, att.lanes, operands);
+        let unit = self.unit(self.select(a_path, b_path, m_path));
         // Differing bits that the mask leaves in sight.
-        let differ = result ^ att.pattern;
+        let differ = unit.result ^ att.pattern;
         let pd = differ & !att.mask == 0;
         let pbd = !differ & !att.mask == 0;
-        let outputs = self.outputs(result, pd, pbd);
+        let outputs = self.outputs(unit.result, pd, pbd);
         let above = Cascade {
             a: if att.a.early_tap { reg.a1 } else { a_path },
             b: if att.b.early_tap { reg.b1 } else { b_path },
             p: outputs.p,
         };
-        Shown { a_input, b_input, ad, product, result, pd, pbd, outputs, above }
+        Shown { a_input, b_input, ad, product, unit, pd, pbd, outputs, above }
     }
 
     /// The pre-adder's sum and the product, both before their registers.
@@ -110,48 +119,56 @@ impl Wired<'_> {
         (ad, left * right)
     }
 
-    fn operands(&self, a_path: i64, b_path: i64, m_path: i64) -> Operands {
+    /// The unit at work on what was selected for it.
+    fn unit(&self, selection: Selection) -> Unit {
+        let (mode, lanes) = (self.controls.alumode, self.attributes.lanes);
+        let result = alu::settle(mode, lanes, selection.operands());
+        Unit { mode, lanes, selection, result }
+    }
+
+    fn select(&self, a_path: i64, b_path: i64, m_path: i64) -> Selection {
         let (att, reg, mode) = (self.attributes, self.registers, self.controls.opmode);
         let c_path = if att.c_held { reg.c } else { self.ports.c };
-        Operands {
+        Selection {
             w: match mode.w {
-                W::Zero => 0,
-                W::P => reg.p,
-                W::Rnd => att.rnd,
-                W::C => c_path,
+                W::Zero => Place::Zero.gives(0),
+                W::P => Place::P.gives(reg.p),
+                W::Rnd => Place::Rnd.gives(att.rnd),
+                W::C => Place::C.gives(c_path),
             },
             x: match mode.x {
-                X::Zero => 0,
-                X::Product => m_path,
-                X::P => reg.p,
-                X::AB => a_path << 18 | pattern(b_path, 18) as i64,
+                X::Zero => Place::Zero.gives(0),
+                X::Product => Place::Product.gives(m_path),
+                X::P => Place::P.gives(reg.p),
+                X::AB => Place::AB.gives(a_path << 18 | pattern(b_path, 18) as i64),
             },
             y: match mode.y {
                 // X brings the whole product, so Y adds nothing to it.
-                Y::Zero | Y::Product => 0,
-                Y::Ones => -1,
-                Y::C => c_path,
+                Y::Zero | Y::Product => Place::Zero.gives(0),
+                Y::Ones => Place::Ones.gives(-1),
+                Y::C => Place::C.gives(c_path),
             },
             z: match mode.z {
-                Z::Zero => 0,
-                Z::Pcin => self.below.p,
-                Z::P => reg.p,
-                Z::C => c_path,
-                Z::PcinShifted => self.below.p >> 17,
-                Z::PShifted => reg.p >> 17,
+                Z::Zero => Place::Zero.gives(0),
+                Z::Pcin => Place::Pcin.gives(self.below.p),
+                Z::P => Place::P.gives(reg.p),
+                Z::C => Place::C.gives(c_path),
+                Z::PcinShifted => Place::PcinShifted.gives(self.below.p >> 17),
+                Z::PShifted => Place::PShifted.gives(reg.p >> 17),
             },
-            carry: self.carry(),
+            carry: self.select_carry(),
         }
     }
 
-    fn carry(&self) -> bool {
+    fn select_carry(&self) -> Selected<bool> {
+        let (att, reg) = (self.attributes, self.registers);
+        let path = if att.carryin_held { reg.carryin } else { self.ports.carryin };
         match self.controls.carryinsel {
-            CarryInSel::Path if self.attributes.carryin_held => self.registers.carryin,
-            CarryInSel::Path => self.ports.carryin,
-            CarryInSel::NotPcinSign => self.below.p >= 0,
-            CarryInSel::PcinSign => self.below.p < 0,
-            CarryInSel::NotPSign => self.registers.p >= 0,
-            CarryInSel::PSign => self.registers.p < 0,
+            CarryInSel::Path => Place::CarryInPath.gives(path),
+            CarryInSel::NotPcinSign => Place::NotPcinSign.gives(self.below.p >= 0),
+            CarryInSel::PcinSign => Place::PcinSign.gives(self.below.p < 0),
+            CarryInSel::NotPSign => Place::NotPSign.gives(reg.p >= 0),
+            CarryInSel::PSign => Place::PSign.gives(reg.p < 0),
         }
     }
 
@@ -206,7 +223,7 @@ pub fn edge(attributes: &Attributes, old: &Registers, ports: &Ports, shown: &Sho
         d: next(old.d, ports.d, ports, E::D, R::D),
         ad: next(old.ad, shown.ad, ports, E::Ad, R::D),
         m: next(old.m, shown.product, ports, E::M, R::M),
-        p: next(old.p, shown.result, ports, E::P, R::P),
+        p: next(old.p, shown.unit.result, ports, E::P, R::P),
         opmode: next(old.opmode, ports.opmode, ports, E::Ctrl, R::Ctrl),
         alumode: next(old.alumode, ports.alumode, ports, E::AluMode, R::AluMode),
         inmode: next(old.inmode, ports.inmode, ports, E::InMode, R::InMode),

@@ -1,4 +1,5 @@
-//! A test or more for each number, 12 through a listing and all others through the calls.
+//! A test or more for each number from 0 to 12, 12 through a listing and all others
+//! through the calls; 13 is `why`'s alone and stands with its tests.
 
 use second::calls::answer;
 use second::refusal::REFUSED;

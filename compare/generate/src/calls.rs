@@ -1,4 +1,4 @@
-//! Calls as lines of text: adder, clock, clear, packed and plain runs.
+//! Calls as lines of text: adder, clock, clear, packed and plain runs; why is in `why_calls`.
 
 use std::io::{self, Write};
 
@@ -6,16 +6,17 @@ use crate::draw::{self, height, Menu, LOGIC_MODES};
 use crate::faults::{all, Fault};
 use crate::oracle::Controls;
 use crate::random::Random;
+use crate::why_calls;
 use crate::words::*;
 
 /// A clock call's words; the lengths need not fit the count.
 #[derive(Clone)]
-struct Clock {
-    count: u64,
-    attributes: Vec<u64>,
-    registers: Vec<u64>,
-    ports: Vec<u64>,
-    outputs: Vec<u64>,
+pub struct Clock {
+    pub count: u64,
+    pub attributes: Vec<u64>,
+    pub registers: Vec<u64>,
+    pub ports: Vec<u64>,
+    pub outputs: Vec<u64>,
 }
 
 /// Writes the sweeps and then so many random calls.
@@ -25,18 +26,20 @@ pub fn write(out: &mut impl Write, random: &mut Random, count: u64) -> io::Resul
     sweep_faults(out, random)?;
     sweep_lanes(out, random)?;
     sweep_packed(out, random)?;
+    why_calls::sweep(out, random)?;
     for _ in 0..count {
-        match random.below(20) {
+        match random.below(23) {
             0..=3 => random_adder(out, random)?,
-            4..=15 => random_clock(out, random)?,
+            4..=15 => any_clock(random).write(out)?,
             16 => random_clear(out, random)?,
-            _ => random_packed(out, random)?,
+            17..=19 => random_packed(out, random)?,
+            _ => why_calls::any(random).write(out)?,
         }
     }
     Ok(())
 }
 
-fn stretch<T: ToString>(words: &[T]) -> String {
+pub fn stretch<T: ToString>(words: &[T]) -> String {
     let mut text = words.len().to_string();
     for word in words {
         text.push(' ');
@@ -53,12 +56,12 @@ impl Clock {
     }
 
     /// A legal clock of a height, in a state that may be any legal one.
-    fn legal(random: &mut Random, height: u64) -> Clock {
+    pub fn legal(random: &mut Random, height: u64) -> Clock {
         let attributes: Vec<Attributes> = (0..height).map(|_| draw::attributes(random)).collect();
         Clock::of(random, &attributes)
     }
 
-    fn of(random: &mut Random, attributes: &[Attributes]) -> Clock {
+    pub fn of(random: &mut Random, attributes: &[Attributes]) -> Clock {
         let mut clock = Clock {
             count: attributes.len() as u64,
             attributes: attributes.concat(),
@@ -222,14 +225,24 @@ fn sweep_lanes(out: &mut impl Write, random: &mut Random) -> io::Result<()> {
 }
 
 /// A clock with given faults, and now and then others; the oracle judges.
-fn faulty(random: &mut Random, height: u64, faults: &[Fault], given: &[(&Fault, usize)]) -> Clock {
+pub fn faulty(
+    random: &mut Random,
+    height: u64,
+    faults: &[Fault],
+    given: &[(&Fault, usize)],
+) -> Clock {
     let mut met = given.to_vec();
     while random.percent(30) {
         let other = &faults[random.below(faults.len() as u64) as usize];
         met.push((other, random.below(height) as usize));
     }
+    with_faults(random, height, &met)
+}
+
+/// A clock with these faults and no others.
+pub fn with_faults(random: &mut Random, height: u64, met: &[(&Fault, usize)]) -> Clock {
     let mut attributes: Vec<Attributes> = (0..height).map(|_| draw::attributes(random)).collect();
-    // The given ones last, so that no other undoes them.
+    // The first ones last, so that no other undoes them.
     for (fault, slice) in met.iter().rev() {
         fault.shape(&mut attributes[*slice]);
     }
@@ -255,7 +268,8 @@ fn random_adder(out: &mut impl Write, random: &mut Random) -> io::Result<()> {
     adder(out, words)
 }
 
-fn random_clock(out: &mut impl Write, random: &mut Random) -> io::Result<()> {
+/// A clock that is legal, but for a fault or a wrong count now and then.
+pub fn any_clock(random: &mut Random) -> Clock {
     let height = height(random);
     let mut clock = Clock::legal(random, height);
     match random.below(100) {
@@ -271,7 +285,7 @@ fn random_clock(out: &mut impl Write, random: &mut Random) -> io::Result<()> {
         }
         _ => {}
     }
-    clock.write(out)
+    clock
 }
 
 fn random_clear(out: &mut impl Write, random: &mut Random) -> io::Result<()> {

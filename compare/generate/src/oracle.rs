@@ -152,6 +152,21 @@ pub fn too_wide(words: &[u64], widths: &[u32]) -> bool {
     words.iter().zip(widths).any(|(word, width)| *word > ones(*width))
 }
 
+/// All numbers from 3 to 9 that a slice deserves, whatever the other slices do.
+pub fn deserved(at: &Attributes, registers: &Registers, po: &Ports) -> Vec<u64> {
+    let controls = Controls::of_registers(registers).in_effect(at, po);
+    let checks = [
+        (3, attributes_refused(at)),
+        (4, too_wide(registers, &REGISTER_WIDTHS)),
+        (5, too_wide(po, &PORT_WIDTHS)),
+        (6, controls.inmode_refused(at)),
+        (7, controls.opmode_refused(at)),
+        (8, controls.alumode_refused()),
+        (9, controls.carryinsel_refused(at)),
+    ];
+    checks.into_iter().filter(|(_, refused)| *refused).map(|(number, _)| number).collect()
+}
+
 /// How one clock ends: nothing, or the number and slice of its refusal.
 pub fn clock_refused(
     attributes: &[Attributes],

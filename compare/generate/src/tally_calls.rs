@@ -5,37 +5,40 @@ use std::io::{self, BufRead, BufReader};
 use std::path::Path;
 
 use crate::oracle::{attributes_refused, clock_refused, too_wide, Controls};
+use crate::read_calls::{Read, Slices, KINDS, WHY};
 use crate::seen_flags::SeenHeld;
 use crate::seen_lanes::{cause, SeenLanes, CAUSES};
+use crate::seen_why::SeenWhy;
 use crate::table::Table;
 use crate::words::*;
 
 const REFUSED: i128 = 1 << 48;
-const KINDS: [&str; 5] = ["adder", "clock", "clear", "packed", "plain"];
 
-/// A call, or an answer to one: plain numbers, then stretches of numbers.
-struct Read {
-    plain: Vec<i128>,
-    stretches: Vec<Vec<i128>>,
-}
+/// The numbers that each call may return.
+const NUMBERS: [&[u64]; 6] = [
+    &[0, 5, 8],
+    &[0, 1, 2, 3, 4, 5, 6, 7, 8, 9],
+    &[0, 1, 2],
+    &[0, 2, 10, 11],
+    &[0, 2, 10, 11],
+    &[0, 1, 2, 3, 4, 5, 6, 7, 8, 9, 13],
+];
 
-/// So many plain numbers, and stretches to the end of the line.
-fn read(fields: &mut dyn Iterator<Item = &str>, plain: usize) -> Option<Read> {
-    let mut numbers = fields.map(|field| field.parse::<i128>().ok());
-    let plain = (0..plain).map(|_| numbers.next()?).collect::<Option<_>>()?;
-    let mut stretches = Vec::new();
-    while let Some(length) = numbers.next() {
-        let words = (0..length?).map(|_| numbers.next()?).collect::<Option<_>>()?;
-        stretches.push(words);
-    }
-    Some(Read { plain, stretches })
-}
+/// The stretches of each call.
+const STRETCHES: [&[&str]; 6] = [
+    &[],
+    &["attributes", "registers", "ports", "outputs"],
+    &["registers"],
+    &["a", "d", "b", "answers", "list"],
+    &["a", "d", "b", "answers"],
+    &["attributes", "registers", "ports", "why"],
+];
 
 /// The groups of the table.
 struct Groups {
-    returned: [usize; 5],
+    returned: [usize; 6],
     slices: Vec<usize>,
-    lengths: [usize; 5],
+    lengths: [usize; 6],
     adder_modes: usize,
     terms: [usize; 2],
     rows: [usize; 2],
@@ -44,29 +47,16 @@ struct Groups {
     lanes: SeenLanes,
     held: SeenHeld,
     causes: usize,
+    why: SeenWhy,
 }
 
 impl Groups {
     fn new(table: &mut Table) -> Groups {
-        let numbers: [&[u64]; 5] = [
-            &[0, 5, 8],
-            &[0, 1, 2, 3, 4, 5, 6, 7, 8, 9],
-            &[0, 1, 2],
-            &[0, 2, 10, 11],
-            &[0, 2, 10, 11],
-        ];
-        let stretches: [&[&str]; 5] = [
-            &[],
-            &["attributes", "registers", "ports", "outputs"],
-            &["registers"],
-            &["a", "d", "b", "answers", "list"],
-            &["a", "d", "b", "answers"],
-        ];
         let returned = std::array::from_fn(|kind| {
-            table.group(&format!("{} returned number", KINDS[kind]), numbers[kind])
+            table.group(&format!("{} returned number", KINDS[kind].0), NUMBERS[kind])
         });
         let lengths = std::array::from_fn(|kind| {
-            table.group(&format!("{} wrong length alone", KINDS[kind]), stretches[kind])
+            table.group(&format!("{} wrong length alone", KINDS[kind].0), STRETCHES[kind])
         });
         let runs = ["packed", "plain"];
         Groups {
@@ -84,6 +74,7 @@ impl Groups {
             lanes: SeenLanes::new(table),
             held: SeenHeld::new(table),
             causes: table.group("clock refusal 3 by", CAUSES),
+            why: SeenWhy::new(table),
         }
     }
 }
@@ -108,35 +99,33 @@ pub fn tally(calls: &Path, answers: &Path) -> io::Result<bool> {
     Ok(unmet == 0 && wrong == 0 && answers.next().is_none())
 }
 
-/// Counts one call, and checks what can be checked without a data path.
+/// Counts one call, and checks what can be checked without a data path; of why all that its answer
+/// tells about itself.
 fn one(table: &mut Table, groups: &Groups, call: &str, answer: &str) -> Result<(), String> {
     let mut fields = call.split(' ');
     let name = fields.next().unwrap_or("");
-    let kind = KINDS.iter().position(|kind| *kind == name).ok_or("unknown call")?;
-    let call = read(&mut fields, [6, 1, 1, 2, 2][kind]).ok_or("unreadable call")?;
-    let answer = read(&mut answer.split(' '), 1).ok_or("unreadable answer")?;
+    let kind = KINDS.iter().position(|(kind, _)| *kind == name).ok_or("unknown call")?;
+    let call = Read::call(fields, kind).ok_or("unreadable call")?;
+    let answer = Read::answer(answer, kind).ok_or("unreadable answer")?;
     let returned = answer.plain[0];
-    let refusal = match kind {
-        0 => adder_refusal(&call),
-        1 => clock_refusal(&call),
-        2 => clear_refusal(&call),
-        _ => packed_refusal(&call, kind == 3),
-    };
+    let refusal = refusal(kind, &call);
     let (number, place) = refusal.unwrap_or((0, 0));
     let expected = refusal.map(|(number, place)| REFUSED + 256 * place + number);
     if expected.unwrap_or(returned) != returned || (expected.is_none() && returned >= REFUSED) {
         return Err(format!("{name} returned {returned}, the oracle says {expected:?}"));
     }
     let kept = match (kind, number) {
+        (WHY, _) => 3,
         (_, 1..) => call.stretches.len(),
         (1, _) => 1,
         (2, _) => 0,
         _ => 3.min(call.stretches.len()),
     };
-    if call.stretches.len() != answer.stretches.len()
-        || call.stretches[..kept] != answer.stretches[..kept]
-    {
+    if call.stretches[..kept] != answer.stretches[..kept] {
         return Err(format!("{name} wrote where it must not"));
+    }
+    if kind == WHY {
+        groups.why.call(table, &call, &answer, refusal)?;
     }
     let item = table.item(groups.returned[kind], &number.to_string());
     table.met(groups.returned[kind], item);
@@ -190,34 +179,23 @@ fn accepted(table: &mut Table, groups: &Groups, kind: usize, call: &Read, answer
     }
 }
 
-/// The lengths a call asks for, when its counts are right.
-fn right_lengths(kind: usize, call: &Read) -> Vec<i128> {
-    let first = call.plain[0];
-    match kind {
-        1 => [22, 18, 11, 5].map(|words| words * first).to_vec(),
-        2 => vec![18 * first],
-        _ => {
-            let rows = call.plain[1];
-            let mut lengths = vec![rows * first; 3];
-            lengths.extend([2 * rows, rows + first + 3]);
-            lengths.truncate(if kind == 3 { 5 } else { 4 });
-            lengths
-        }
-    }
-}
-
-fn lengths_wrong(kind: usize, call: &Read) -> Vec<usize> {
-    let right = right_lengths(kind, call);
-    (0..right.len()).filter(|which| call.stretches[*which].len() as i128 != right[*which]).collect()
-}
-
 fn lengths(table: &mut Table, group: usize, kind: usize, call: &Read) {
-    if let [which] = lengths_wrong(kind, call)[..] {
+    if let [which] = call.lengths_wrong(kind)[..] {
         table.met(group, which);
     }
 }
 
 type Refusal = Option<(i128, i128)>;
+
+fn refusal(kind: usize, call: &Read) -> Refusal {
+    match kind {
+        0 => adder_refusal(call),
+        1 => shape_refusal(kind, call).or_else(|| column_refusal(call)),
+        2 => shape_refusal(kind, call),
+        WHY => why_refusal(call),
+        _ => packed_refusal(kind, call),
+    }
+}
 
 fn adder_refusal(call: &Read) -> Refusal {
     let [w, x, y, z, cin, alumode] = call.plain[..] else { return Some((-1, 0)) };
@@ -235,34 +213,20 @@ fn adder_refusal(call: &Read) -> Refusal {
     }
 }
 
-/// A clock call's words, slice by slice, once its lengths are right.
-struct Slices {
-    attributes: Vec<Attributes>,
-    registers: Vec<Registers>,
-    ports: Vec<Ports>,
-}
-
-impl Slices {
-    fn of(call: &Read) -> Slices {
-        Slices {
-            attributes: records(&call.stretches[0]),
-            registers: records(&call.stretches[1]),
-            ports: records(&call.stretches[2]),
-        }
-    }
-}
-
-fn records<const COUNT: usize>(words: &[i128]) -> Vec<[u64; COUNT]> {
-    words.chunks(COUNT).map(|record| std::array::from_fn(|i| record[i] as u64)).collect()
-}
-
-fn clock_refusal(call: &Read) -> Refusal {
+/// Numbers 1 and 2 of a call that has a count of slices.
+fn shape_refusal(kind: usize, call: &Read) -> Refusal {
     if !(1..=24).contains(&call.plain[0]) {
         return Some((1, 0));
     }
-    if !lengths_wrong(1, call).is_empty() {
-        return Some((2, 0));
-    }
+    length_refusal(kind, call)
+}
+
+fn length_refusal(kind: usize, call: &Read) -> Refusal {
+    (!call.lengths_wrong(kind).is_empty()).then_some((2, 0))
+}
+
+/// Numbers 3 to 9.
+fn column_refusal(call: &Read) -> Refusal {
     let Slices { attributes, registers, ports } = Slices::of(call);
     if let Some(slice) = attributes.iter().position(attributes_refused) {
         return Some((3, slice as i128));
@@ -274,19 +238,18 @@ fn clock_refusal(call: &Read) -> Refusal {
     clock_refused(&attributes, &held, &ports).map(|(number, slice)| (number.into(), slice as i128))
 }
 
-fn clear_refusal(call: &Read) -> Refusal {
-    if !(1..=24).contains(&call.plain[0]) {
-        return Some((1, 0));
-    }
-    (!lengths_wrong(2, call).is_empty()).then_some((2, 0))
+fn why_refusal(call: &Read) -> Refusal {
+    let above = call.plain[1] >= call.plain[0];
+    let refusal = shape_refusal(WHY, call).or(above.then_some((13, 0)));
+    refusal.or_else(|| column_refusal(call))
 }
 
-fn packed_refusal(call: &Read, listed: bool) -> Refusal {
+fn packed_refusal(kind: usize, call: &Read) -> Refusal {
     if !(1..=7).contains(&call.plain[0]) {
         return Some((10, 0));
     }
     if !(1..=4096).contains(&call.plain[1]) {
         return Some((11, 0));
     }
-    (!lengths_wrong(if listed { 3 } else { 4 }, call).is_empty()).then_some((2, 0))
+    length_refusal(kind, call)
 }

@@ -52,6 +52,7 @@ pub mod rg {
     pub const A2: usize = 1;
     pub const B2: usize = 3;
     pub const C: usize = 4;
+    pub const M: usize = 7;
     pub const P: usize = 8;
     pub const OPMODE: usize = 9;
     pub const ALUMODE: usize = 10;
@@ -104,6 +105,9 @@ pub const RST_NAMES: [&str; 10] =
 pub const PORT_WIDTHS: [u32; 11] = [30, 18, 48, 27, 9, 4, 5, 3, 1, 13, 10];
 pub const REGISTER_WIDTHS: [u32; 18] =
     [30, 30, 18, 18, 48, 27, 27, 45, 48, 9, 4, 5, 3, 1, 1, 1, 1, 1];
+
+/// The words of an answer to why.
+pub const WHY_WORDS: usize = 13;
 
 /// CE and RST bits that bear on P and on the control registers.
 pub const CE_P: u64 = 1 << 8;

@@ -1,15 +1,15 @@
 -- Laws of the answer: where it is `Accepted` every check has passed, where it is not nothing is stored, and the slice that it reports is
 -- below 24. Assumes nothing.
-use mathlib.Core.Path.{_≡_, refl, ap}
+use mathlib.Core.Path.{_≡_, refl, ap, sym, _∙_}
 use mathlib.Core.Logic.{⊎-elim}
-use mathlib.Core.Bool.{Bool, true, false}
+use mathlib.Core.Bool.{Bool, true, false, _&&_}
 use mathlib.Core.List.{List, [], _∷_}
 use Prim.Native.Nat.{ℕ, _*_, _<_, _≤_}
 use native.Mathlib.Nat.{lt-of-lt-of-le}
 use native.Mathlib.Omega.{arith}
-use lib.Dec.{eqb, lit<}
+use lib.Dec.{eqb, ltb, lit<}
 use lib.ListN.{length}
-use borrow.Author.Tests.{eqb-true}
+use borrow.Author.Tests.{eqb-true, ltb-true}
 use types.Run.{OneOf}
 use denote.Enum.Declared.{tagOf}
 use Rattle.word.proofs.Laws.{both-true}
@@ -18,11 +18,11 @@ use Rattle.records.specs.Records.{attributeWords, registerWords, portWords, out
 use Rattle.column.specs.declared.Check.{Check}
 use Rattle.column.specs.declared.Check.the-variants.{Attribute, Register, Port, Inmode, Opmode, Alumode, Carryinsel}
 use Rattle.column.specs.declared.Answer.{Answer}
-use Rattle.column.specs.declared.Answer.the-variants.{Accepted, BadCount, BadLength, Broken}
+use Rattle.column.specs.declared.Answer.the-variants.{Accepted, BadCount, BadLength, Broken, BadSlice}
 use Rattle.column.specs.declared.refusals.Found.{Found}
 use Rattle.column.specs.declared.refusals.Found.the-variants.{Nothing, At}
-use Rattle.column.specs.Refusals.{checkNumber, numberOf, placeOf, fails, lowest, refuse, broken, rules, settings, countFits, lengthsFit, clockAnswer, clearAnswer, attributesAnswer}
-use Rattle.column.specs.Parts.{Lengths}
+use Rattle.column.specs.Refusals.{checkNumber, numberOf, placeOf, fails, lowest, refuse, broken, rules, settings, countFits, lengthsFit, inputsFit, clockAnswer, clearAnswer, attributesAnswer, whyAnswer}
+use Rattle.column.specs.Parts.{Lengths, Reaches}
 use Rattle.column.proofs.Search.{few, lowest-says}
 use Rattle.column.proofs.Answer.{the-type}
 
@@ -79,16 +79,24 @@ pub record Ready (count : ℕ) (at rs ps os : List ℕ) : Type 0 where
   pub lengths : Lengths count at rs ps
   pub outputs : length os ≡ outputWords * count
 
+pub input-lengths : (count : ℕ) (at rs ps : List ℕ) → inputsFit count at rs ps ≡ true → Lengths count at rs ps
+unfolding inputsFit
+input-lengths count at rs ps p =
+    let p3 = both-true _ (eqb (length ps) (portWords * count)) p in
+    let p2 = both-true (eqb (length at) (attributeWords * count)) (eqb (length rs) (registerWords * count)) (p3 .0) in
+    record { attributes = eqb-true _ _ (p2 .0); registers = eqb-true _ _ (p2 .1); ports = eqb-true _ _ (p3 .1) }
+
+-- a clock's lengths are those of its inputs and of its outputs
+pub lengths-parts : (count : ℕ) (at rs ps os : List ℕ)
+    → lengthsFit count at rs ps os ≡ (inputsFit count at rs ps && eqb (length os) (outputWords * count))
+unfolding lengthsFit inputsFit
+lengths-parts count at rs ps os = refl
+
 pub right-lengths : (count : ℕ) (at rs ps os : List ℕ) → lengthsFit count at rs ps os ≡ true
     → Lengths count at rs ps × (length os ≡ outputWords * count)
-unfolding lengthsFit
 right-lengths count at rs ps os p =
-    let p4 = both-true _ (eqb (length os) (outputWords * count)) p in
-    let p3 = both-true _ (eqb (length ps) (portWords * count)) (p4 .0) in
-    let p2 = both-true (eqb (length at) (attributeWords * count)) (eqb (length rs) (registerWords * count)) (p3 .0) in (
-      record { attributes = eqb-true _ _ (p2 .0); registers = eqb-true _ _ (p2 .1); ports = eqb-true _ _ (p3 .1) },
-      eqb-true _ _ (p4 .1),
-    )
+    let p4 = both-true (inputsFit count at rs ps) (eqb (length os) (outputWords * count)) (sym (lengths-parts count at rs ps os) ∙ p) in
+    (input-lengths count at rs ps (p4 .0), eqb-true _ _ (p4 .1))
 
 pub accepted-ready : (count : ℕ) (at rs ps os : List ℕ) → clockAnswer count at rs ps os ≡ Accepted → Ready count at rs ps os
 unfolding clockAnswer
@@ -97,6 +105,35 @@ accepted-ready count at rs ps os p =
     let p2 = unless-passes (lengthsFit count at rs ps os) BadLength (settings count at rs ps) (lit< tt) (p1 .1) in
     let long = right-lengths count at rs ps os (p2 .0) in
     record { few = few count (p1 .0); lengths = long .0; outputs = long .1 }
+
+-- a slice that `why` tells of
+pub record Asked (count : ℕ) (at rs ps : List ℕ) (k : ℕ) : Type 0 where
+  pub counted : countFits count ≡ true
+  pub fitted : inputsFit count at rs ps ≡ true
+  pub below : k < count
+  pub legal : settings count at rs ps ≡ Accepted
+  pub reaches : Reaches k at rs ps
+
+pub why-ready : (count : ℕ) (at rs ps : List ℕ) (k : ℕ) → whyAnswer count at rs ps k ≡ Accepted → Asked count at rs ps k
+unfolding whyAnswer
+why-ready count at rs ps k p =
+    let p1 = unless-passes (countFits count) BadCount _ (lit< tt) p in
+    let p2 = unless-passes (inputsFit count at rs ps) BadLength _ (lit< tt) (p1 .1) in
+    let p3 = unless-passes (ltb k count) BadSlice (settings count at rs ps) (lit< tt) (p2 .1) in
+    let h = ltb-true k count (p3 .0) in
+    let long = input-lengths count at rs ps (p2 .0) in
+    record {
+      counted = p1 .0;
+      fitted = p2 .0;
+      below = h;
+      legal = p3 .1;
+      reaches =
+          record {
+            attributes = omega (arith, long .attributes, h);
+            registers = omega (arith, long .registers, h);
+            ports = omega (arith, long .ports, h);
+          };
+    }
 
 pub cleared-length : (count : ℕ) (rs : List ℕ) → clearAnswer count rs ≡ Accepted → length rs ≡ registerWords * count
 unfolding clearAnswer
@@ -138,22 +175,25 @@ attributes-passed count at rs ps os p =
 -- ---- refused
 
 -- an answer of another variant than the first has a number above 0, so what was there is kept
-pub refused : (a : Answer) → OneOf (1 ∷ 2 ∷ 3 ∷ []) (tagOf the-type a) → 0 < numberOf a
-refused Accepted h = absurd (⊎-elim (λ e. omega arith) (λ l. ⊎-elim (λ e. omega arith) (λ e. omega arith) l) h)
+pub refused : (a : Answer) → OneOf (1 ∷ 2 ∷ 3 ∷ 4 ∷ []) (tagOf the-type a) → 0 < numberOf a
+refused Accepted h =
+    absurd (⊎-elim (λ e. omega arith) (λ l. ⊎-elim (λ e. omega arith) (λ l. ⊎-elim (λ e. omega arith) (λ e. omega arith) l) l) h)
 refused BadCount h = lit< tt
 refused BadLength h = lit< tt
 refused (Broken check k) h = check-above check
+refused BadSlice h = lit< tt
 
 -- ---- the number, and the slice that is reported
 
-pub check-small : (check : Check) → checkNumber check < 10
-check-small = each-check (λ check. checkNumber check < 10) (lit< tt) (lit< tt) (lit< tt) (lit< tt) (lit< tt) (lit< tt) (lit< tt)
+pub check-small : (check : Check) → checkNumber check < 14
+check-small = each-check (λ check. checkNumber check < 14) (lit< tt) (lit< tt) (lit< tt) (lit< tt) (lit< tt) (lit< tt) (lit< tt)
 
-pub number-small : (a : Answer) → numberOf a < 10
+pub number-small : (a : Answer) → numberOf a < 14
 number-small Accepted = lit< tt
 number-small BadCount = lit< tt
 number-small BadLength = lit< tt
 number-small (Broken check k) = check-small check
+number-small BadSlice = lit< tt
 
 refuse-place : (check : Check) (f : ℕ → Bool) (count : ℕ) (next : Answer) → count ≤ 24 → placeOf next < 24
     → placeOf (refuse check (lowest f count) next) < 24
@@ -189,3 +229,10 @@ unfolding clearAnswer
 clear-place count rs =
     unless-place (countFits count) BadCount _ (lit< tt)
     (λ _. unless-place (eqb (length rs) (registerWords * count)) BadLength Accepted (lit< tt) (λ _. lit< tt))
+
+pub why-place : (count : ℕ) (at rs ps : List ℕ) (k : ℕ) → placeOf (whyAnswer count at rs ps k) < 24
+unfolding whyAnswer
+why-place count at rs ps k =
+    unless-place (countFits count) BadCount _ (lit< tt)
+    (λ p. unless-place (inputsFit count at rs ps) BadLength _ (lit< tt)
+    (λ _. unless-place (ltb k count) BadSlice (settings count at rs ps) (lit< tt) (λ _. settings-place count at rs ps (few count p))))

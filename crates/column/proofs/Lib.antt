@@ -5,5 +5,6 @@ pub mod Edges
 pub mod Fits
 pub mod Passing
 pub mod Before
+pub mod Truth
 pub mod Unique
 pub mod Values

@@ -13,6 +13,8 @@ use Rattle.column.proofs.clear.Kinds as clear
 use Rattle.column.proofs.clear.Reads as clear-reads
 use Rattle.column.proofs.refusals.attributes_answer.Kinds as attributes-answer
 use Rattle.column.proofs.refusals.attributes_answer.Reads as attributes-answer-reads
+use Rattle.column.proofs.why.Kinds as why
+use Rattle.column.proofs.why.Reads as why-reads
 use Rattle.column.proofs.number.Kinds as number
 use Rattle.column.proofs.number.Reads as number-reads
 use Rattle.column.proofs.place.Kinds as place
@@ -27,6 +29,9 @@ clock-once κs args r₁ r₂ x₁ x₂ a b = one-clock a b
 pub clear-once : (κs : Lfts 1) (args : Dens κs clear.ps) (r₁ r₂ : resT clear.r κs .Denot) (x₁ x₂ : AtExit (endedOf 1 clear.ps clear.r) κs)
     → clear-reads.Post κs args r₁ x₁ → clear-reads.Post κs args r₂ x₂ → (r₁ ≡ r₂) × (now (x₁ .1 .0) ≡ now (x₂ .1 .0))
 clear-once κs args r₁ r₂ x₁ x₂ a b = one-clear a b
+
+pub why-once : Once why.ps why.r why-reads.Post
+why-once _ _ _ _ _ _ a b = a ∙ sym b
 
 pub number-once : Once number.ps number.r number-reads.Post
 number-once _ _ _ _ _ _ a b = a ∙ sym b

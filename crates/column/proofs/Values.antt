@@ -1,4 +1,4 @@
--- Facts by value that pin the column and its refusals: each stands beside a slip that would break it. Assumes nothing.
+-- Facts by value that pin the column, its refusals and its reasons: each stands beside a slip that would break it. Assumes nothing.
 use mathlib.Core.Path.{_≡_, refl}
 use mathlib.Core.List.{List, [], _∷_, _++_}
 use Prim.Native.Nat.{ℕ, _-_, _*_, _^_}
@@ -8,9 +8,11 @@ use Rattle.unit.specs.Unit.{arithmetic, lanes, logicRows, unitResult, splitResu
 use Rattle.unit.specs.Detector.{unmasked, detected}
 use Rattle.slice.specs.Slice.{controlsOf, selectsOf, pathsOf, aSide, dSide, adOf, leftOf, rightOf, productOf, operandsOf, sliceOperands, resultOf, settledOf, sliceSettled, outputsOfSettled, cascadeOf, edge, nextOf, sliceOutputs, sliceCascade, sliceNext}
 use Rattle.legal.specs.Legal.{offList, badInmode, badOpmode, badAlumode, badCarryinsel, breaks}
+use Rattle.reason.specs.Reason.{placesOf, ruleOf, reasonOf, reasonWords}
 use Rattle.column.specs.declared.Answer.{Answer}
 use Rattle.column.specs.Column.{cascadeInto, shownAt, nextAt, columnShown, columnNext}
-use Rattle.column.specs.Refusals.{numberOf, placeOf, broken, fails, rules, settings, lengthsFit, clockAnswer, clearAnswer, attributesAnswer}
+use Rattle.column.specs.Refusals.{numberOf, placeOf, broken, fails, rules, settings, lengthsFit, inputsFit, clockAnswer, clearAnswer, attributesAnswer, whyAnswer}
+use Rattle.column.specs.Calls.{reasonAt, whyOf}
 
 -- the attributes of n slices, all 0
 abbrev plain : (n : ℕ) → List ℕ
@@ -35,6 +37,17 @@ one at rs ps = told (clockAnswer 1 at rs ps (replicate 5 0))
 
 abbrev two : (at rs ps : List ℕ) → List ℕ
 two at rs ps = told (clockAnswer 2 at rs ps (replicate 10 0))
+
+-- the answer of `why` of slice k by number and place, and its words
+abbrev why : (count : ℕ) → (at rs ps : List ℕ) → (k : ℕ) → List ℕ
+why count at rs ps k = told (whyOf count at rs ps k .answer) ++ reasonWords (whyOf count at rs ps k .reason)
+
+-- the packed run's settings (01, "Packed run")
+abbrev packed : List ℕ
+packed = 1 ∷ 2 ∷ 1 ∷ 2 ∷ 0 ∷ 0 ∷ 0 ∷ 1 ∷ 1 ∷ 1 ∷ 1 ∷ 0 ∷ 0 ∷ 0 ∷ 0 ∷ 0 ∷ 1 ∷ 1 ∷ replicate (attributeWords - 18) 0
+
+abbrev packed-ports : List ℕ
+packed-ports = 0 ∷ 0 ∷ 0 ∷ 0 ∷ 21 ∷ 0 ∷ 4 ∷ 0 ∷ 0 ∷ 8191 ∷ 0 ∷ []
 
 pub record Neighbours : Type 0 where
   -- two slices with PREG 1, P 40 below and 2 above; below loads C (100), above adds PCIN (40, from before the edge) to its own P
@@ -71,6 +84,24 @@ pub record Refused : Type 0 where
       × (told (attributesAnswer 1 (set (plain 1) 16 2)) ≡ 3 ∷ 0 ∷ [])
       × (told (attributesAnswer 1 (0 ∷ plain 1)) ≡ 2 ∷ 0 ∷ [])
 
+-- number and place; W, X, Y, Z, CIN; their places; the rule, USE_SIMD, the result
+pub record Whys : Type 0 where
+  -- the two slices of `Neighbours`: below C 100 is Y, above Z is PCIN (40, from before the edge) and X its own P
+  pub lower : why 2 (preg ++ preg) (p-holds 40 ++ p-holds 2) (c-and-opmode 100 12 ++ c-and-opmode 0 18) 0
+      ≡ 0 ∷ 0 ∷ 0 ∷ 0 ∷ 100 ∷ 0 ∷ 0 ∷ 0 ∷ 0 ∷ 5 ∷ 0 ∷ 10 ∷ 1 ∷ 0 ∷ 100 ∷ []
+  pub upper : why 2 (preg ++ preg) (p-holds 40 ++ p-holds 2) (c-and-opmode 100 12 ++ c-and-opmode 0 18) 1
+      ≡ 0 ∷ 0 ∷ 0 ∷ 2 ∷ 0 ∷ 40 ∷ 0 ∷ 0 ∷ 2 ∷ 0 ∷ 6 ∷ 10 ∷ 1 ∷ 0 ∷ 42 ∷ []
+  -- the packed setting's slice 1, which holds M 3, over P 12: X is M, Z is PCIN, and Y's place is 0
+  pub packed-slice : why 2 (packed ++ packed) (p-holds 12 ++ set (p-holds 77) 7 3) (packed-ports ++ packed-ports) 1
+      ≡ 0 ∷ 0 ∷ 0 ∷ 3 ∷ 0 ∷ 12 ∷ 0 ∷ 0 ∷ 1 ∷ 0 ∷ 6 ∷ 10 ∷ 1 ∷ 0 ∷ 15 ∷ []
+  -- every refusal gives zeros: 1 before 2; 2 of each length, before 13; 13 at the count, before 3; 3 of a slice above the one asked for
+  pub no-slices : why 0 [] [] [] 0 ≡ 1 ∷ 0 ∷ replicate 13 0
+  pub short : (why 1 (replicate (attributeWords - 1) 0) (replicate 18 0) (replicate 11 0) 1 ≡ 2 ∷ 0 ∷ replicate 13 0)
+      × (why 1 (plain 1) (replicate 17 0) (replicate 11 0) 1 ≡ 2 ∷ 0 ∷ replicate 13 0)
+      × (why 1 (plain 1) (replicate 18 0) (replicate 12 0) 1 ≡ 2 ∷ 0 ∷ replicate 13 0)
+  pub no-such-slice : why 1 (set (plain 1) 0 3) (replicate 18 0) (replicate 11 0) 1 ≡ 13 ∷ 0 ∷ replicate 13 0
+  pub faulty-above : why 2 (plain 1 ++ set (plain 1) 0 3) (replicate 36 0) (replicate 22 0) 0 ≡ 3 ∷ 1 ∷ replicate 13 0
+
 pub neighbours : Neighbours
 unfolding columnNext columnShown nextAt shownAt cascadeInto sliceNext nextOf edge load sliceOutputs sliceCascade outputsOfSettled cascadeOf sliceSettled settledOf resultOf sliceOperands operandsOf selectsOf productOf leftOf rightOf adOf aSide dSide controlsOf pathsOf splitResult unitResult lanes arithmetic logicRows preAdder product detected unmasked
 neighbours = record { before-the-edge = refl; shown-before = refl }
@@ -94,4 +125,17 @@ refused =
       held = refl;
       clearing = (refl, refl, refl);
       alone = (refl, refl, refl, refl);
+    }
+
+pub whys : Whys
+unfolding whyOf whyAnswer inputsFit settings rules fails broken breaks exceeds offList badInmode badOpmode badAlumode badCarryinsel reasonAt reasonOf reasonWords placesOf ruleOf cascadeInto sliceOutputs sliceCascade outputsOfSettled cascadeOf sliceSettled settledOf resultOf sliceOperands operandsOf selectsOf productOf leftOf rightOf adOf aSide dSide controlsOf pathsOf splitResult unitResult lanes arithmetic logicRows preAdder product detected unmasked
+whys =
+    record {
+      lower = refl;
+      upper = refl;
+      packed-slice = refl;
+      no-slices = refl;
+      short = (refl, refl, refl);
+      no-such-slice = refl;
+      faulty-above = refl;
     }

@@ -1,5 +1,5 @@
 -- What the parts of the code promise one another; no caller needs it. Assumes nothing.
-use Prim.Native.Nat.{ℕ, _*_}
+use Prim.Native.Nat.{ℕ, _+_, _*_, _≤_}
 use mathlib.Core.Path.{_≡_}
 use mathlib.Core.Bool.{Bool, true, cond, _&&_}
 use mathlib.Core.List.{List, [], _∷_}
@@ -21,6 +21,12 @@ pub record Lengths (n : ℕ) (at rs ps : List ℕ) : Type 0 where
   pub attributes : length at ≡ attributeWords * n
   pub registers : length rs ≡ registerWords * n
   pub ports : length ps ≡ portWords * n
+
+-- the lent words reach to the end of slice k's
+pub record Reaches (k : ℕ) (at rs ps : List ℕ) : Type 0 where
+  pub attributes : attributeWords * k + attributeWords ≤ length at
+  pub registers : registerWords * k + registerWords ≤ length rs
+  pub ports : portWords * k + portWords ≤ length ps
 
 -- ---- the limit check
 

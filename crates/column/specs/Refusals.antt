@@ -1,8 +1,8 @@
--- The refusals of a clock, of clearing and of the attributes alone (01, "Refusal numbers"). Assumes nothing.
+-- The refusals of a clock, of clearing, of the attributes alone (01, "Refusal numbers") and of `why` (02, Ask 3). Assumes nothing.
 use Prim.Native.Nat.{ℕ, zero, suc, _*_}
 use mathlib.Core.Bool.{Bool, true, false, _&&_, _||_}
 use mathlib.Core.List.{List, []}
-use lib.Dec.{leb, eqb}
+use lib.Dec.{leb, ltb, eqb}
 use lib.ListN.{length}
 use Rattle.lent.specs.Refusing.{unless}
 use Rattle.records.specs.Records.{attributeWords, registerWords, portWords, outputWords, attributeWidths, registerWidths, portWidths, exceeds, attributesOf, registersOf, portsOf}
@@ -11,12 +11,12 @@ use Rattle.legal.specs.Legal.{offList, breaks}
 use Rattle.column.specs.declared.Check.{Check}
 use Rattle.column.specs.declared.Check.the-variants.{Attribute, Register, Port, Inmode, Opmode, Alumode, Carryinsel}
 use Rattle.column.specs.declared.Answer.{Answer}
-use Rattle.column.specs.declared.Answer.the-variants.{Accepted, BadCount, BadLength, Broken}
+use Rattle.column.specs.declared.Answer.the-variants.{Accepted, BadCount, BadLength, Broken, BadSlice}
 use Rattle.column.specs.declared.refusals.Found.{Found}
 use Rattle.column.specs.declared.refusals.Found.the-variants.{Nothing, At}
 use Rattle.column.specs.Column.{stretch}
 
--- 01's number of each answer
+-- the number of each answer: 01's, and 13 of 02, Ask 3
 abbrev pub checkNumber : Check → ℕ
 checkNumber Attribute = 3
 checkNumber Register = 4
@@ -31,13 +31,15 @@ numberOf Accepted = 0
 numberOf BadCount = 1
 numberOf BadLength = 2
 numberOf (Broken check k) = checkNumber check
+numberOf BadSlice = 13
 
--- and its slice: "0, 1 and 2 report slice 0"
+-- and its slice: "0, 1 and 2 report slice 0", and so does 13
 abbrev pub placeOf : Answer → ℕ
 placeOf Accepted = 0
 placeOf BadCount = 0
 placeOf BadLength = 0
 placeOf (Broken check k) = k
+placeOf BadSlice = 0
 
 -- Given exactly when: a slice's own words break the check
 unfoldable pub broken : Check → (at rs ps : List ℕ) → Bool
@@ -111,3 +113,13 @@ unfoldable pub attributesAnswer : (count : ℕ) → (at : List ℕ) → Answer
 attributesAnswer count at =
     unless (countFits count) BadCount (unless (eqb (length at) (attributeWords * count)) BadLength
     (refuse Attribute (lowest (fails Attribute at [] []) count) Accepted))
+
+-- the same lengths where no outputs are lent
+unfoldable pub inputsFit : (count : ℕ) → (at rs ps : List ℕ) → Bool
+inputsFit count at rs ps =
+    eqb (length at) (attributeWords * count) && eqb (length rs) (registerWords * count) && eqb (length ps) (portWords * count)
+
+-- Order for `why`: "those of a clock, in its order; a slice at or above the count is 13, after 2"
+unfoldable pub whyAnswer : (count : ℕ) → (at rs ps : List ℕ) → (k : ℕ) → Answer
+whyAnswer count at rs ps k =
+    unless (countFits count) BadCount (unless (inputsFit count at rs ps) BadLength (unless (ltb k count) BadSlice (settings count at rs ps)))

@@ -1,18 +1,21 @@
-// One column of 1 to 24 slices: a clock of it, clearing, and the checks of its attributes alone. Each takes whatever it is lent,
-// and refuses what is malformed or forbidden by number and lowest slice, with nothing changed.
+// One column of 1 to 24 slices: a clock of it, clearing, why a slice's P is what it is, and the checks of its attributes alone.
+// Each takes whatever it is lent, and refuses what is malformed or forbidden by number and lowest slice, with nothing changed.
 ghost use mathlib.Core.Path.{_≡_};
 ghost use Rattle.column.specs.Refusals.{numberOf, placeOf};
-ghost use Rattle.column.specs.Calls.{Clocked, Cleared};
+ghost use Rattle.column.specs.Calls.{Clocked, Cleared, whyOf};
 
 mod edge;
 mod refusals;
+mod settling;
 mod stretch;
 
+pub use reason::Reason;
 pub use records::Attributes;
 pub use records::Outputs;
 pub use records::Ports;
 pub use records::Registers;
 pub use refusals::attributes_answer;
+pub use settling::Why;
 
 // The checks that look into the lent words: numbers 3 to 9.
 pub enum Check {
@@ -25,12 +28,13 @@ pub enum Check {
     Carryinsel,
 }
 
-// What a call answers. `Broken` names the check and the lowest slice that fails it.
+// What a call answers. `Broken` names the check and the lowest slice that fails it; `BadSlice` is an answer of `why` alone.
 pub enum Answer {
     Accepted,
     BadCount,
     BadLength,
     Broken(Check, usize),
+    BadSlice,
 }
 
 // One clock: the outputs settle from the registers before the edge and the ports; then all registers load at once.
@@ -64,7 +68,25 @@ pub fn clear(count: usize, registers: &mut [u64]) -> Answer
     Answer::Accepted
 }
 
-// 01's number of an answer.
+// Why a slice's P is what it is in this clock: the unit's operands, where each comes from, the rule, and the result. Nothing is
+// stored.
+pub fn why(count: usize, attributes: &[u64], registers: &[u64], ports: &[u64], slice: usize) -> Why
+    ensures { λ r. ⌜ r ≡ whyOf count (now (attributes .entry)) (now (registers .entry)) (now (ports .entry)) slice ⌝ }
+{
+    let answer = refusals::why_answer(count, attributes, registers, ports, slice);
+    let Answer::Accepted = answer else {
+        return Why {
+            answer: answer,
+            reason: Reason::none(),
+        };
+    };
+    Why {
+        answer: Answer::Accepted,
+        reason: settling::reason_at(attributes, registers, ports, slice),
+    }
+}
+
+// The number of an answer, 01's and 02's.
 pub fn number(answer: Answer) -> u64
     ensures { λ r. ⌜ r ≡ numberOf answer ⌝ }
 {
@@ -73,6 +95,7 @@ pub fn number(answer: Answer) -> u64
         Answer::BadCount => 1,
         Answer::BadLength => 2,
         Answer::Broken(check, _) => refusals::check_number(check),
+        Answer::BadSlice => 13,
     }
 }
 
@@ -85,5 +108,6 @@ pub fn place(answer: Answer) -> usize
         Answer::BadCount => 0,
         Answer::BadLength => 0,
         Answer::Broken(_, k) => k,
+        Answer::BadSlice => 0,
     }
 }

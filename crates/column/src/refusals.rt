@@ -7,7 +7,7 @@ ghost use lib.ListN.{length};
 ghost use Rattle.records.specs.Records.{attributeWords};
 ghost use Rattle.column.specs.declared.Check.the-variants.{Attribute};
 ghost use Rattle.column.specs.declared.Answer.the-variants.{Accepted};
-ghost use Rattle.column.specs.Refusals.{checkNumber, fails, lowest, refuse, rules, settings, countFits, lengthsFit, clockAnswer, clearAnswer, attributesAnswer};
+ghost use Rattle.column.specs.Refusals.{checkNumber, fails, lowest, refuse, rules, settings, countFits, lengthsFit, inputsFit, clockAnswer, clearAnswer, attributesAnswer, whyAnswer};
 ghost use Rattle.column.specs.Parts.{Lengths, Table, over, earlierOf, offListAt, breaksAt};
 use crate::Answer;
 use crate::Check;
@@ -216,6 +216,39 @@ pub fn clock_answer(
     }
     if nothing_broken(count, attributes, registers, ports) {
         return Answer::Accepted;
+    }
+    settings_answer(count, attributes, registers, ports)
+}
+
+fn inputs_fit(count: usize, attributes: &[u64], registers: &[u64], ports: &[u64]) -> bool
+    requires { ⌜ count ≤ 24 ⌝ }
+    ensures { λ r.
+        ⌜ r ≡ inputsFit count (now (attributes .entry)) (now (registers .entry)) (now (ports .entry)) ⌝ }
+{
+    (attributes.len() == Attributes::WORDS * count)
+        & (registers.len() == Registers::WORDS * count)
+        & (ports.len() == Ports::WORDS * count)
+}
+
+// The checks of `why`, in their order: a clock's, and the slice after the lengths.
+pub fn why_answer(
+    count: usize,
+    attributes: &[u64],
+    registers: &[u64],
+    ports: &[u64],
+    slice: usize,
+) -> Answer
+    ensures { λ r.
+        ⌜ r ≡ whyAnswer count (now (attributes .entry)) (now (registers .entry)) (now (ports .entry)) slice ⌝ }
+{
+    if !count_fits(count) {
+        return Answer::BadCount;
+    }
+    if !inputs_fit(count, attributes, registers, ports) {
+        return Answer::BadLength;
+    }
+    if count <= slice {
+        return Answer::BadSlice;
     }
     settings_answer(count, attributes, registers, ports)
 }

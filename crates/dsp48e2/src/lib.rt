@@ -3,9 +3,10 @@ ghost use mathlib.Core.Path.{_≡_};
 ghost use Prim.Native.Nat.{_<_};
 ghost use Rattle.unit.specs.Unit.{adder};
 ghost use Rattle.column.specs.Refusals.{placeOf};
-ghost use Rattle.dsp48e2.specs.Border.{wordOf, ClockedC, ClearedC, runWord, ClockedRunC, PlainRunC};
+ghost use Rattle.dsp48e2.specs.Border.{wordOf, ClockedC, ClearedC, whyLent, WhyC, runWord, ClockedRunC, PlainRunC};
 ghost use Rattle.packed.specs.Packed.{batch};
 use column::Answer;
+use column::Reason;
 use packed::Run;
 
 // The returned word of an answer.
@@ -49,6 +50,38 @@ pub extern "C" fn dsp_clear(count: u64, registers: &mut [u64]) -> u64
     ensures { λ r. ⌜ ClearedC count (now (registers .entry)) r (now (registers .exit)) ⌝ }
 {
     word_of(column::clear(count as usize, registers))
+}
+
+// A `why` of another length is number 2, which only 1 comes before.
+fn why_lent(fits: bool, answer: Answer) -> Answer
+    ensures { λ r. ⌜ r ≡ whyLent fits answer ⌝ }
+{
+    if fits | (column::number(answer) == 1) {
+        answer
+    } else {
+        Answer::BadLength
+    }
+}
+
+// Why a slice's P is what it is: the words of the reason, or zeros, in `why`; 0 when accepted.
+#[no_mangle]
+pub extern "C" fn dsp_why(
+    count: u64,
+    attributes: &[u64],
+    registers: &[u64],
+    ports: &[u64],
+    slice: u64,
+    why: &mut [u64],
+) -> u64
+    ensures { λ r.
+        ⌜ WhyC count (now (attributes .entry)) (now (registers .entry)) (now (ports .entry)) slice (now (why .entry)) r (now (why .exit)) ⌝ }
+{
+    let told = column::why(count as usize, attributes, registers, ports, slice as usize);
+    let answer = told.answer;
+    let fits = why.len() == Reason::WORDS;
+    let words = told.reason.words();
+    lent::store(why, &words);
+    word_of(why_lent(fits, answer))
 }
 
 // The returned word of a packed run.

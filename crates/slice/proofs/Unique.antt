@@ -8,6 +8,8 @@ use Rattle.slice.proofs.inputs.in_effect.Kinds as in-effect
 use Rattle.slice.proofs.inputs.in_effect.Reads as in-effect-reads
 use Rattle.slice.proofs.inputs.selects_of.Kinds as selects-of
 use Rattle.slice.proofs.inputs.selects_of.Reads as selects-of-reads
+use Rattle.slice.proofs.operands.settled_operands.Kinds as settled-operands
+use Rattle.slice.proofs.operands.settled_operands.Reads as settled-operands-reads
 
 pub stepped-once : Once stepped.ps stepped.r stepped-reads.Post
 stepped-once _ _ _ _ _ _ a b = a ∙ sym b
@@ -17,3 +19,6 @@ in-effect-once _ _ _ _ _ _ a b = a ∙ sym b
 
 pub selects-of-once : Once selects-of.ps selects-of.r selects-of-reads.Post
 selects-of-once _ _ _ _ _ _ a b = a ∙ sym b
+
+pub settled-operands-once : Once settled-operands.ps settled-operands.r settled-operands-reads.Post
+settled-operands-once _ _ _ _ _ _ a b = a ∙ sym b

@@ -13,3 +13,5 @@ pub use inputs::Controls;
 pub use inputs::Selects;
 pub use inputs::in_effect;
 pub use inputs::selects_of;
+pub use operands::Operands;
+pub use operands::settled_operands;

@@ -6,6 +6,7 @@ use native.Mathlib.Omega.{arith}
 use mathlib.Core.Bool.{Bool, true, false, cond}
 use mathlib.Core.List.{List, [], _∷_}
 use lib.Dec.{ltb, eqb, lit<}
+use lib.ListN.{getD}
 use lib.Pow.{pow-pos, ones-sub-lt}
 use lib.Bits.{bitAnd, bitOr, bitXor, and-lt, or-lt, xor-lt}
 use lib.IntN.{pos, _+ℤ_, _-ℤ_, _*ℤ_}
@@ -36,18 +37,22 @@ choose-lt some end s = some
 choose-lt some (and h b) zero = h
 choose-lt some (and h b) (suc s) = choose-lt some b s
 
--- the select is at no place of the list, counted from n, that may hold more than 0
-pub data Off (s : ℕ) : (n : ℕ) → List ℕ → Type 0 where
-  out : {n : ℕ} → Off s n []
-  past : {n x : ℕ} {xs : List ℕ} → (s ≡ n → ⊥) → Off s (suc n) xs → Off s n (x ∷ xs)
-  over : {n : ℕ} {xs : List ℕ} → Off s (suc n) xs → Off s n (0 ∷ xs)
+-- the select is at no place of the list, counted from n, that may hold anything but d
+pub data Off {A : Type 0} (d : A) (s : ℕ) : (n : ℕ) → List A → Type 0 where
+  out : {n : ℕ} → Off d s n []
+  past : {n : ℕ} {x : A} {xs : List A} → (s ≡ n → ⊥) → Off d s (suc n) xs → Off d s n (x ∷ xs)
+  over : {n : ℕ} {xs : List A} → Off d s (suc n) xs → Off d s n (d ∷ xs)
 
-pub choose-off : {s n : ℕ} {xs : List ℕ} (k : ℕ) → n + k ≡ s → Off s n xs → choose xs k ≡ 0
-choose-off k e out = refl
-choose-off zero e (past f off) = absurd (f (omega arith))
-choose-off (suc k) e (past f off) = choose-off k (omega arith) off
-choose-off zero e (over off) = refl
-choose-off (suc k) e (over off) = choose-off k (omega arith) off
+-- so it gets d
+pub getD-off : {A : Type 0} {d : A} {s n : ℕ} {xs : List A} (k : ℕ) → n + k ≡ s → Off d s n xs → getD xs k d ≡ d
+getD-off k e out = refl
+getD-off zero e (past f off) = absurd (f (omega arith))
+getD-off (suc k) e (past f off) = getD-off k (omega arith) off
+getD-off zero e (over off) = refl
+getD-off (suc k) e (over off) = getD-off k (omega arith) off
+
+pub choose-off : {s n : ℕ} {xs : List ℕ} (k : ℕ) → n + k ≡ s → Off 0 s n xs → choose xs k ≡ 0
+choose-off k e off = getD-off k e off
 
 -- ---- widths
 

@@ -1,0 +1,93 @@
+// Why a slice's P is what it is: the unit's operands, the place that each was selected from, the rule by which the unit works,
+// and its result. Every function takes every number.
+ghost use mathlib.Core.Path.{_≡_};
+ghost use Rattle.reason.specs.Reason.{reasonOf, noReason, reasonWords};
+use records::Attributes;
+use records::Ports;
+use records::Registers;
+use slice::Cascade;
+use slice::Operands;
+
+mod places;
+mod rules;
+
+pub use places::Place;
+pub use places::Places;
+pub use rules::Rule;
+
+// The operands, where each comes from, the rule with its lanes (USE_SIMD), and the unit's result.
+pub struct Reason {
+    pub values: Operands,
+    pub places: Places,
+    pub rule: Rule,
+    pub lanes: u64,
+    pub result: u64,
+}
+
+impl Reason {
+    pub const WORDS: usize = 13;
+
+    // Of a refused call: zeros.
+    pub fn none() -> Reason
+        ensures { λ v. ⌜ v ≡ noReason ⌝ }
+    {
+        Reason {
+            values: Operands {
+                w: 0,
+                x: 0,
+                y: 0,
+                z: 0,
+                cin: 0,
+            },
+            places: Places {
+                w: Place::Zero,
+                x: Place::Zero,
+                y: Place::Zero,
+                z: Place::Zero,
+                cin: Place::Zero,
+            },
+            rule: Rule::NoRule,
+            lanes: 0,
+            result: 0,
+        }
+    }
+
+    // As words: the five values, their five places, the rule, the lanes, the result.
+    pub fn words(self) -> [u64; Reason::WORDS]
+        ensures { λ v. ⌜ v ≡ reasonWords self ⌝ }
+    {
+        let values = self.values;
+        let places = self.places.numbers();
+        let rule = self.rule;
+        [
+            values.w,
+            values.x,
+            values.y,
+            values.z,
+            values.cin,
+            places[0],
+            places[1],
+            places[2],
+            places[3],
+            places[4],
+            rules::rule_number(rule),
+            self.lanes,
+            self.result,
+        ]
+    }
+}
+
+// The reason of a slice's result in this clock.
+pub fn reason_of(a: Attributes, r: Registers, p: Ports, x: Cascade) -> Reason
+    ensures { λ v. ⌜ v ≡ reasonOf a r p x ⌝ }
+{
+    let k = slice::in_effect(a, r, p);
+    let o = slice::settled_operands(a, r, p, x);
+    Reason {
+        values: o,
+        places: places::places_of(k),
+        rule: rules::rule_of(k.alumode, o.y),
+        lanes: a.use_simd,
+        result: unit::split_result(a.use_simd, k.alumode, o.w, o.x, o.y, o.z, o.cin),
+    }
+}

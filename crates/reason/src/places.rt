@@ -1,0 +1,147 @@
+// The places that operands are selected from, and which the selects name.
+ghost use mathlib.Core.Path.{_≡_};
+ghost use Rattle.reason.specs.Reason.{placeNumber, wPlace, xPlace, yPlace, zPlace, cinPlace, placesOf, placesNumbers};
+use slice::Controls;
+
+// An entry of a select: 0, M, P, A:B, all ones, C, PCIN, PCIN shifted, P shifted, RND, the CARRYIN path, a sign or its complement.
+pub enum Place {
+    Zero,
+    M,
+    P,
+    AB,
+    Ones,
+    C,
+    Pcin,
+    PcinShifted,
+    PShifted,
+    Rnd,
+    Carryin,
+    PcinBit47,
+    NotPcinBit47,
+    PBit47,
+    NotPBit47,
+}
+
+// The place of each operand.
+pub struct Places {
+    pub w: Place,
+    pub x: Place,
+    pub y: Place,
+    pub z: Place,
+    pub cin: Place,
+}
+
+impl Places {
+    // As words, in the operands' order.
+    pub fn numbers(self) -> [u64; 5]
+        ensures { λ v. ⌜ v ≡ placesNumbers self ⌝ }
+    {
+        let w = self.w;
+        let x = self.x;
+        let y = self.y;
+        let z = self.z;
+        let cin = self.cin;
+        [
+            place_number(w),
+            place_number(x),
+            place_number(y),
+            place_number(z),
+            place_number(cin),
+        ]
+    }
+}
+
+pub fn place_number(place: Place) -> u64
+    ensures { λ n. ⌜ n ≡ placeNumber place ⌝ }
+{
+    match place {
+        Place::Zero => 0,
+        Place::M => 1,
+        Place::P => 2,
+        Place::AB => 3,
+        Place::Ones => 4,
+        Place::C => 5,
+        Place::Pcin => 6,
+        Place::PcinShifted => 7,
+        Place::PShifted => 8,
+        Place::Rnd => 9,
+        Place::Carryin => 10,
+        Place::PcinBit47 => 11,
+        Place::NotPcinBit47 => 12,
+        Place::PBit47 => 13,
+        Place::NotPBit47 => 14,
+    }
+}
+
+fn w_place(select: u64) -> Place
+    ensures { λ v. ⌜ v ≡ wPlace select ⌝ }
+{
+    match select {
+        1 => Place::P,
+        2 => Place::Rnd,
+        3 => Place::C,
+        _ => Place::Zero,
+    }
+}
+
+fn x_place(select: u64) -> Place
+    ensures { λ v. ⌜ v ≡ xPlace select ⌝ }
+{
+    match select {
+        1 => Place::M,
+        2 => Place::P,
+        3 => Place::AB,
+        _ => Place::Zero,
+    }
+}
+
+fn y_place(select: u64) -> Place
+    ensures { λ v. ⌜ v ≡ yPlace select ⌝ }
+{
+    match select {
+        1 => Place::Zero, // M, which X contributes
+        2 => Place::Ones,
+        3 => Place::C,
+        _ => Place::Zero,
+    }
+}
+
+fn z_place(select: u64) -> Place
+    ensures { λ v. ⌜ v ≡ zPlace select ⌝ }
+{
+    match select {
+        1 => Place::Pcin,
+        2 => Place::P,
+        3 => Place::C,
+        5 => Place::PcinShifted,
+        6 => Place::PShifted,
+        _ => Place::Zero,
+    }
+}
+
+fn cin_place(select: u64) -> Place
+    ensures { λ v. ⌜ v ≡ cinPlace select ⌝ }
+{
+    match select {
+        0 => Place::Carryin,
+        1 => Place::NotPcinBit47,
+        3 => Place::PcinBit47,
+        5 => Place::NotPBit47,
+        7 => Place::PBit47,
+        _ => Place::Zero,
+    }
+}
+
+// Where the operands come from, by the control words in effect.
+pub fn places_of(k: Controls) -> Places
+    ensures { λ v. ⌜ v ≡ placesOf k ⌝ }
+{
+    let select = slice::selects_of(k.opmode);
+    Places {
+        w: w_place(select.w),
+        x: x_place(select.x),
+        y: y_place(select.y),
+        z: z_place(select.z),
+        cin: cin_place(k.carryinsel),
+    }
+}
