@@ -9,7 +9,7 @@ use native.Mathlib.Nat.{lt-of-lt-of-le}
 use native.Mathlib.Omega.{arith}
 use lib.Dec.{eqb, ltb, lit<}
 use lib.ListN.{length}
-use borrow.Author.Tests.{eqb-true, ltb-true}
+use borrow.Author.Tests.{eqb-true, eq-eqb, ltb-true}
 use types.Run.{OneOf}
 use denote.Enum.Declared.{tagOf}
 use Rattle.word.proofs.Laws.{both-true}
@@ -22,7 +22,7 @@ use Rattle.column.specs.declared.Answer.the-variants.{Accepted, BadCount
 use Rattle.column.specs.declared.refusals.Found.{Found}
 use Rattle.column.specs.declared.refusals.Found.the-variants.{Nothing, At}
 use Rattle.column.specs.Refusals.{checkNumber, numberOf, placeOf, fails, lowest, refuse, broken, rules, settings, countFits, lengthsFit, inputsFit, clockAnswer, clearAnswer, attributesAnswer, whyAnswer}
-use Rattle.column.specs.Parts.{Lengths, Reaches}
+use Rattle.column.specs.Parts.{Lengths, Reaches, askedAnswer}
 use Rattle.column.proofs.Search.{few, lowest-says}
 use Rattle.column.proofs.Answer.{the-type}
 
@@ -106,34 +106,59 @@ accepted-ready count at rs ps os p =
     let long = right-lengths count at rs ps os (p2 .0) in
     record { few = few count (p1 .0); lengths = long .0; outputs = long .1 }
 
--- a slice that `why` tells of
+-- columns of the right count and lengths are answered by their settings
+pub clock-settings : (count : ℕ) (at rs ps os : List ℕ) → countFits count ≡ true → Lengths count at rs ps → length os ≡ outputWords * count
+    → clockAnswer count at rs ps os ≡ settings count at rs ps
+unfolding clockAnswer lengthsFit
+clock-settings count at rs ps os counted long wide =
+    rw (
+      counted,
+      eq-eqb (length at) (attributeWords * count) (long .attributes),
+      eq-eqb (length rs) (registerWords * count) (long .registers),
+      eq-eqb (length ps) (portWords * count) (long .ports),
+      eq-eqb (length os) (outputWords * count) wide,
+    )
+
+-- a slice that `why` may tell of, if a clock allows it
 pub record Asked (count : ℕ) (at rs ps : List ℕ) (k : ℕ) : Type 0 where
   pub counted : countFits count ≡ true
-  pub fitted : inputsFit count at rs ps ≡ true
-  pub below : k < count
-  pub legal : settings count at rs ps ≡ Accepted
+  pub lengths : Lengths count at rs ps
   pub reaches : Reaches k at rs ps
+  pub answer : whyAnswer count at rs ps k ≡ settings count at rs ps
 
-pub why-ready : (count : ℕ) (at rs ps : List ℕ) (k : ℕ) → whyAnswer count at rs ps k ≡ Accepted → Asked count at rs ps k
-unfolding whyAnswer
-why-ready count at rs ps k p =
+pub asked-ready : (count : ℕ) (at rs ps : List ℕ) (k : ℕ) → askedAnswer count at rs ps k ≡ Accepted → Asked count at rs ps k
+unfolding askedAnswer whyAnswer
+asked-ready count at rs ps k p =
     let p1 = unless-passes (countFits count) BadCount _ (lit< tt) p in
     let p2 = unless-passes (inputsFit count at rs ps) BadLength _ (lit< tt) (p1 .1) in
-    let p3 = unless-passes (ltb k count) BadSlice (settings count at rs ps) (lit< tt) (p2 .1) in
+    let p3 = unless-passes (ltb k count) BadSlice Accepted (lit< tt) (p2 .1) in
     let h = ltb-true k count (p3 .0) in
     let long = input-lengths count at rs ps (p2 .0) in
     record {
       counted = p1 .0;
-      fitted = p2 .0;
-      below = h;
-      legal = p3 .1;
+      lengths = long;
       reaches =
           record {
             attributes = omega (arith, long .attributes, h);
             registers = omega (arith, long .registers, h);
             ports = omega (arith, long .ports, h);
           };
+      answer = rw (p1 .0, p2 .0, p3 .0);
     }
+
+-- what is refused before 3 to 9 is the answer
+pub asked-refuses : (count : ℕ) (at rs ps : List ℕ) (k : ℕ) → 0 < numberOf (askedAnswer count at rs ps k)
+    → askedAnswer count at rs ps k ≡ whyAnswer count at rs ps k
+unfolding askedAnswer whyAnswer
+asked-refuses count at rs ps k = by (countFits count) (inputsFit count at rs ps) (ltb k count)
+  where
+    by : (x y z : Bool) → 0 < numberOf (unless x BadCount (unless y BadLength (unless z BadSlice Accepted)))
+        → unless x BadCount (unless y BadLength (unless z BadSlice Accepted))
+        ≡ unless x BadCount (unless y BadLength (unless z BadSlice (settings count at rs ps)))
+    by false y z h = refl
+    by true false z h = refl
+    by true true false h = refl
+    by true true true h = absurd (omega arith)
 
 pub cleared-length : (count : ℕ) (rs : List ℕ) → clearAnswer count rs ≡ Accepted → length rs ≡ registerWords * count
 unfolding clearAnswer

@@ -5,16 +5,22 @@ use mathlib.Core.Bool.{Bool, true, cond, _&&_}
 use mathlib.Core.List.{List, [], _∷_}
 use lib.Dec.{T, ltb, leb}
 use lib.ListN.{length}
+use Rattle.lent.specs.Refusing.{unless}
 use Rattle.records.specs.declared.Attributes.{Attributes}
 use Rattle.records.specs.declared.Ports.{Ports}
-use Rattle.records.specs.Records.{attributeWords, registerWords, portWords, exceeds, registersOf, registersWords, outputsWords}
+use Rattle.records.specs.Records.{attributeWords, registerWords, portWords, outputWords, exceeds, registersOf, registersWords, outputsWords}
 use Rattle.slice.specs.declared.inputs.Cascade.{Cascade}
 use Rattle.slice.specs.Slice.{sliceOutputs, sliceCascade, sliceNext}
+use Rattle.reason.specs.Reason.{noReason}
 use Rattle.legal.specs.declared.rules.Rule.{Rule}
 use Rattle.legal.specs.Legal.{offList, breaks}
 use Rattle.column.specs.declared.refusals.Found.{Found}
 use Rattle.column.specs.declared.refusals.Found.the-variants.{Nothing, At}
+use Rattle.column.specs.declared.settling.Why.{Why}
+use Rattle.column.specs.declared.Answer.{Answer}
+use Rattle.column.specs.declared.Answer.the-variants.{Accepted, BadCount, BadLength, BadSlice}
 use Rattle.column.specs.Column.{stretch, attributesAt, registersAt, portsAt, columnShown, columnNext}
+use Rattle.column.specs.Refusals.{countFits, inputsFit}
 
 -- the lent words of n slices have their lengths
 pub record Lengths (n : ℕ) (at rs ps : List ℕ) : Type 0 where
@@ -22,11 +28,27 @@ pub record Lengths (n : ℕ) (at rs ps : List ℕ) : Type 0 where
   pub registers : length rs ≡ registerWords * n
   pub ports : length ps ≡ portWords * n
 
+-- a clock that is tried on a copy: the count and all lengths are right
+pub record Tried (count : ℕ) (at rs ps copy shown : List ℕ) : Type 0 where
+  pub counted : countFits count ≡ true
+  pub lengths : Lengths count at rs ps
+  pub copied : length copy ≡ registerWords * count
+  pub room : length shown ≡ outputWords * count
+
 -- the lent words reach to the end of slice k's
 pub record Reaches (k : ℕ) (at rs ps : List ℕ) : Type 0 where
   pub attributes : attributeWords * k + attributeWords ≤ length at
   pub registers : registerWords * k + registerWords ≤ length rs
   pub ports : portWords * k + portWords ≤ length ps
+
+-- what a refused `why` tells
+abbrev pub refusedWhy : Answer → Why
+refusedWhy answer = record { answer = answer; reason = noReason }
+
+-- the checks of `why` that come before 3 to 9
+unfoldable pub askedAnswer : (count : ℕ) → (at rs ps : List ℕ) → (k : ℕ) → Answer
+askedAnswer count at rs ps k =
+    unless (countFits count) BadCount (unless (inputsFit count at rs ps) BadLength (unless (ltb k count) BadSlice Accepted))
 
 -- ---- the limit check
 

@@ -17,6 +17,9 @@ pub use records::Registers;
 pub use refusals::attributes_answer;
 pub use settling::Why;
 
+// The slices of a column at most.
+const MOST_SLICES: usize = 24;
+
 // The checks that look into the lent words: numbers 3 to 9.
 pub enum Check {
     Attribute,
@@ -73,12 +76,13 @@ pub fn clear(count: usize, registers: &mut [u64]) -> Answer
 pub fn why(count: usize, attributes: &[u64], registers: &[u64], ports: &[u64], slice: usize) -> Why
     ensures { λ r. ⌜ r ≡ whyOf count (now (attributes .entry)) (now (registers .entry)) (now (ports .entry)) slice ⌝ }
 {
-    let answer = refusals::why_answer(count, attributes, registers, ports, slice);
+    let asked = refusals::asked_answer(count, attributes, registers, ports, slice);
+    let Answer::Accepted = asked else {
+        return settling::refused(asked);
+    };
+    let answer = settling::clock_answer(count, attributes, registers, ports);
     let Answer::Accepted = answer else {
-        return Why {
-            answer: answer,
-            reason: Reason::none(),
-        };
+        return settling::refused(answer);
     };
     Why {
         answer: Answer::Accepted,

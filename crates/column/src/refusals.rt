@@ -7,10 +7,11 @@ ghost use lib.ListN.{length};
 ghost use Rattle.records.specs.Records.{attributeWords};
 ghost use Rattle.column.specs.declared.Check.the-variants.{Attribute};
 ghost use Rattle.column.specs.declared.Answer.the-variants.{Accepted};
-ghost use Rattle.column.specs.Refusals.{checkNumber, fails, lowest, refuse, rules, settings, countFits, lengthsFit, inputsFit, clockAnswer, clearAnswer, attributesAnswer, whyAnswer};
-ghost use Rattle.column.specs.Parts.{Lengths, Table, over, earlierOf, offListAt, breaksAt};
+ghost use Rattle.column.specs.Refusals.{checkNumber, fails, lowest, refuse, rules, settings, countFits, lengthsFit, inputsFit, clockAnswer, clearAnswer, attributesAnswer};
+ghost use Rattle.column.specs.Parts.{Lengths, Table, over, earlierOf, offListAt, breaksAt, askedAnswer};
 use crate::Answer;
 use crate::Check;
+use crate::MOST_SLICES;
 use crate::stretch::attributes_at;
 use crate::stretch::ports_at;
 use crate::stretch::registers_at;
@@ -177,7 +178,7 @@ fn settings_answer(count: usize, attributes: &[u64], registers: &[u64], ports: &
 fn count_fits(count: usize) -> bool
     ensures { λ r. ⌜ r ≡ countFits count ⌝ }
 {
-    (1 <= count) & (count <= 24)
+    (1 <= count) & (count <= MOST_SLICES)
 }
 
 fn lengths_fit(
@@ -230,8 +231,8 @@ fn inputs_fit(count: usize, attributes: &[u64], registers: &[u64], ports: &[u64]
         & (ports.len() == Ports::WORDS * count)
 }
 
-// The checks of `why`, in their order: a clock's, and the slice after the lengths.
-pub fn why_answer(
+// The checks of `why` that come before the clock's 3 to 9, in their order.
+pub fn asked_answer(
     count: usize,
     attributes: &[u64],
     registers: &[u64],
@@ -239,7 +240,7 @@ pub fn why_answer(
     slice: usize,
 ) -> Answer
     ensures { λ r.
-        ⌜ r ≡ whyAnswer count (now (attributes .entry)) (now (registers .entry)) (now (ports .entry)) slice ⌝ }
+        ⌜ r ≡ askedAnswer count (now (attributes .entry)) (now (registers .entry)) (now (ports .entry)) slice ⌝ }
 {
     if !count_fits(count) {
         return Answer::BadCount;
@@ -250,7 +251,7 @@ pub fn why_answer(
     if count <= slice {
         return Answer::BadSlice;
     }
-    settings_answer(count, attributes, registers, ports)
+    Answer::Accepted
 }
 
 // The checks of clearing, in their order.

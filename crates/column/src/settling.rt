@@ -1,15 +1,20 @@
 // What settles in a slice of a column before the edge. Nothing is stored.
 ghost use mathlib.Core.Path.{_≡_};
+ghost use mathlib.Core.Bool.{true};
+ghost use Prim.Native.Nat.{_≤_};
 ghost use Rattle.slice.specs.Slice.{sliceCascade};
 ghost use Rattle.column.specs.Column.{cascadeInto};
+ghost use Rattle.column.specs.Refusals.{countFits, settings};
 ghost use Rattle.column.specs.Calls.{reasonAt};
-ghost use Rattle.column.specs.Parts.{Reaches};
+ghost use Rattle.column.specs.Parts.{Lengths, Tried, Reaches, refusedWhy};
 use crate::Answer;
+use crate::MOST_SLICES;
 use crate::stretch::attributes_at;
 use crate::stretch::ports_at;
 use crate::stretch::registers_at;
 use reason::Reason;
 use records::Attributes;
+use records::Outputs;
 use records::Ports;
 use records::Registers;
 use slice::Cascade;
@@ -20,12 +25,58 @@ pub struct Why {
     pub reason: Reason,
 }
 
+// A refusal tells zeros.
+pub fn refused(answer: Answer) -> Why
+    ensures { λ v. ⌜ v ≡ refusedWhy answer ⌝ }
+{
+    Why {
+        answer: answer,
+        reason: Reason::none(),
+    }
+}
+
+// The clock's answer, from a clock on a copy of the registers.
+fn tried(
+    count: usize,
+    attributes: &[u64],
+    registers: &[u64],
+    ports: &[u64],
+    copy: &mut [u64],
+    shown: &mut [u64],
+) -> Answer
+    requires { ⌜ Tried count (now attributes) (now registers) (now ports) (now copy) (now shown) ⌝ }
+    ensures { λ r. ⌜ r ≡ settings count (now (attributes .entry)) (now (registers .entry)) (now (ports .entry)) ⌝ }
+{
+    lent::store(copy, registers);
+    crate::clock(count, attributes, copy, ports, shown)
+}
+
+// Checks 3 to 9: the clock itself is asked, in words of its own. A second call of the checks would make the clock dearer.
+pub fn clock_answer(count: usize, attributes: &[u64], registers: &[u64], ports: &[u64]) -> Answer
+    requires { ⌜ (count ≤ 24) × (countFits count ≡ true) × Lengths count (now attributes) (now registers) (now ports) ⌝ }
+    ensures { λ r. ⌜ r ≡ settings count (now (attributes .entry)) (now (registers .entry)) (now (ports .entry)) ⌝ }
+{
+    let mut copy = [0u64; Registers::WORDS * MOST_SLICES];
+    let mut shown = [0u64; Outputs::WORDS * MOST_SLICES];
+    let r = Registers::WORDS * count;
+    let o = Outputs::WORDS * count;
+    tried(
+        count,
+        attributes,
+        registers,
+        ports,
+        &mut copy[..r],
+        &mut shown[..o],
+    )
+}
+
 // What a slice hands up.
 fn handed_up(a: Attributes, r: Registers, p: Ports, below: Cascade) -> Cascade
     ensures { λ x. ⌜ x ≡ sliceCascade a r p below ⌝ }
 {
-    let step = slice::stepped(a, r, p, below);
-    step.up
+    let s = slice::routed(a, r, p, below);
+    let reason = reason::reason_of(a, r, p, below);
+    slice::cascade_of(a, r, s, reason.result)
 }
 
 // What slice k gets from the slice below.

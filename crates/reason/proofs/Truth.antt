@@ -11,21 +11,23 @@ use native.Mathlib.Omega.{arith}
 use borrow.Author.Tests.{le-ltb}
 use lib.IntN.{pos, _+ℤ_, _-ℤ_}
 use Rattle.word.specs.Word.{word}
-use Rattle.unit.specs.Choice.{bit}
+use Rattle.unit.specs.Choice.{mux, bit}
 use Rattle.unit.specs.Unit.{ones, compl, arithmetic, laneWidth, laneCount, logicRows, unitResult, splitResult, load}
 use Rattle.unit.proofs.Lanes.{laneOf, carryOf, lane-of-lanes}
 use Rattle.records.specs.declared.Attributes.{Attributes}
 use Rattle.records.specs.declared.Registers.{Registers}
 use Rattle.records.specs.declared.Ports.{Ports}
 use Rattle.slice.specs.declared.inputs.Cascade.{Cascade}
+use Rattle.slice.specs.declared.inputs.Controls.{Controls}
+use Rattle.slice.specs.declared.inputs.Paths.{Paths}
 use Rattle.slice.specs.declared.operands.Operands.{Operands}
-use Rattle.slice.specs.Slice.{controlsOf, selectsOf, operandsOf, sliceOperands, resultOf, settledOf, sliceSettled, outputsOfSettled, sliceOutputs, edge, nextOf, sliceNext}
+use Rattle.slice.specs.Slice.{controlsOf, selectsOf, pathsOf, productOf, operandsOf, sliceOperands, resultOf, settledOf, sliceSettled, outputsOfSettled, sliceOutputs, edge, nextOf, sliceNext}
 use Rattle.reason.specs.declared.places.Place.{Place}
 use Rattle.reason.specs.declared.places.Place.the-variants.{Zero, M, P, AB, Ones, C, Pcin, PcinShifted, PShifted, Rnd, Carryin, PcinBit47, NotPcinBit47, PBit47, NotPBit47}
 use Rattle.reason.specs.declared.rules.Rule.{Rule}
 use Rattle.reason.specs.declared.rules.Rule.the-variants.{NoRule, Sum, SumNotZ, NotSum, Difference, Xor, Xnor, And, Or, AndNotZ, OrNotZ, Nand, Nor, NotXOrZ, NotXAndZ}
 use Rattle.reason.specs.declared.Reason.{Reason}
-use Rattle.reason.specs.Reason.{placesOf, valueAt, byYRule, ruleOf, applied, reasonOf}
+use Rattle.reason.specs.Reason.{placesOf, heldAt, valueAt, heldValues, byYRule, ruleOf, applied, reasonOf}
 
 -- ---- the places
 
@@ -38,21 +40,35 @@ pub record Placed (a : Attributes) (r : Registers) (p : Ports) (below : Cascade)
   pub cin : v .values .cin ≡ valueAt a r p below (v .places .cin)
 
 -- a list of places, read by what they hold, is the list of the operand's values
-pub places-true : (a : Attributes) (r : Registers) (p : Ports) (x : Cascade) → Placed a r p x (reasonOf a r p x)
-unfolding reasonOf placesOf valueAt sliceOperands operandsOf
-places-true a r p x =
-    let value = valueAt a r p x in
-    let k = controlsOf a r p in
-    let s = selectsOf (k .opmode) in
-    record {
-      w = List·getD-map value (Zero ∷ P ∷ Rnd ∷ C ∷ []) (s .w) Zero;
-      x = List·getD-map value (Zero ∷ M ∷ P ∷ AB ∷ []) (s .x) Zero;
-      y = List·getD-map value (Zero ∷ Zero ∷ Ones ∷ C ∷ []) (s .y) Zero;
-      z = List·getD-map value (Zero ∷ Pcin ∷ P ∷ C ∷ Zero ∷ PcinShifted ∷ PShifted ∷ []) (s .z) Zero;
+pub held-operands : (a : Attributes) (r : Registers) (k : Controls) (s : Paths) (x : Cascade) (m : ℕ)
+    → operandsOf a r k s x m ≡ heldValues a r s x m (placesOf k)
+unfolding operandsOf heldValues heldAt placesOf
+held-operands a r k s x m =
+    let held = heldAt a r s x m in
+    let select = selectsOf (k .opmode) in
+    λ i. record {
+      w = List·getD-map held (Zero ∷ P ∷ Rnd ∷ C ∷ []) (select .w) Zero i;
+      x = List·getD-map held (Zero ∷ M ∷ P ∷ AB ∷ []) (select .x) Zero i;
+      y = List·getD-map held (Zero ∷ Zero ∷ Ones ∷ C ∷ []) (select .y) Zero i;
+      z = List·getD-map held (Zero ∷ Pcin ∷ P ∷ C ∷ Zero ∷ PcinShifted ∷ PShifted ∷ []) (select .z) Zero i;
       cin =
-          List·getD-map value (Carryin ∷ NotPcinBit47 ∷ Zero ∷ PcinBit47 ∷ Zero ∷ NotPBit47 ∷ Zero ∷ PBit47 ∷ [])
+          List·getD-map held (Carryin ∷ NotPcinBit47 ∷ Zero ∷ PcinBit47 ∷ Zero ∷ NotPBit47 ∷ Zero ∷ PBit47 ∷ [])
           (k .carryinsel)
-          Zero;
+          Zero
+          i;
+    }
+
+pub places-true : (a : Attributes) (r : Registers) (p : Ports) (x : Cascade) → Placed a r p x (reasonOf a r p x)
+unfolding reasonOf valueAt sliceOperands heldValues
+places-true a r p x =
+    let s = pathsOf a r p x in
+    let same = held-operands a r (controlsOf a r p) s x (mux (a .mreg) (productOf a r (controlsOf a r p) s .m) (r .m)) in
+    record {
+      w = ap (λ (o : Operands). o .w) same;
+      x = ap (λ (o : Operands). o .x) same;
+      y = ap (λ (o : Operands). o .y) same;
+      z = ap (λ (o : Operands). o .z) same;
+      cin = ap (λ (o : Operands). o .cin) same;
     }
 
 -- ---- the rule

@@ -15,6 +15,7 @@ use Rattle.records.specs.declared.Registers.{Registers}
 use Rattle.records.specs.declared.Ports.{Ports}
 use Rattle.slice.specs.declared.inputs.Cascade.{Cascade}
 use Rattle.slice.specs.declared.inputs.Controls.{Controls}
+use Rattle.slice.specs.declared.inputs.Paths.{Paths}
 use Rattle.slice.specs.declared.operands.Operands.{Operands}
 use Rattle.slice.specs.Slice.{controlsOf, selectsOf, pathsOf, productOf, joined, sliceOperands, sliceSettled}
 use Rattle.reason.specs.declared.places.Place.{Place}
@@ -62,23 +63,39 @@ placesOf k =
       cin = cinPlace (k .carryinsel);
     }
 
--- What a place holds in this clock: paths, registers and the cascade of the slice, and no select
+-- What a place holds in this clock, of the paths s, the cascade x and the M path m: no select has a word in it
+unfoldable pub heldAt : Attributes → Registers → Paths → Cascade → (m : ℕ) → Place → ℕ
+heldAt a r s x m Zero = 0
+heldAt a r s x m M = extend 45 48 m
+heldAt a r s x m P = r .p
+heldAt a r s x m AB = joined (s .a) (s .b)
+heldAt a r s x m Ones = ones 48
+heldAt a r s x m C = s .c
+heldAt a r s x m Pcin = x .p
+heldAt a r s x m PcinShifted = shifted 48 17 (x .p)
+heldAt a r s x m PShifted = shifted 48 17 (r .p)
+heldAt a r s x m Rnd = a .rnd
+heldAt a r s x m Carryin = s .carryin
+heldAt a r s x m PcinBit47 = bit (x .p) 47
+heldAt a r s x m NotPcinBit47 = 1 - bit (x .p) 47
+heldAt a r s x m PBit47 = bit (r .p) 47
+heldAt a r s x m NotPBit47 = 1 - bit (r .p) 47
+
+-- the same, of all that a slice reads; M is read from the register when MREG is 1, else bypassed
 unfoldable pub valueAt : Attributes → Registers → Ports → Cascade → Place → ℕ
-valueAt a r p x Zero = 0
-valueAt a r p x M = extend 45 48 (mux (a .mreg) (productOf a r (controlsOf a r p) (pathsOf a r p x) .m) (r .m))
-valueAt a r p x P = r .p
-valueAt a r p x AB = joined (pathsOf a r p x .a) (pathsOf a r p x .b)
-valueAt a r p x Ones = ones 48
-valueAt a r p x C = pathsOf a r p x .c
-valueAt a r p x Pcin = x .p
-valueAt a r p x PcinShifted = shifted 48 17 (x .p)
-valueAt a r p x PShifted = shifted 48 17 (r .p)
-valueAt a r p x Rnd = a .rnd
-valueAt a r p x Carryin = pathsOf a r p x .carryin
-valueAt a r p x PcinBit47 = bit (x .p) 47
-valueAt a r p x NotPcinBit47 = 1 - bit (x .p) 47
-valueAt a r p x PBit47 = bit (r .p) 47
-valueAt a r p x NotPBit47 = 1 - bit (r .p) 47
+valueAt a r p x place =
+    heldAt a r (pathsOf a r p x) x (mux (a .mreg) (productOf a r (controlsOf a r p) (pathsOf a r p x) .m) (r .m)) place
+
+-- what the operands' places hold
+unfoldable pub heldValues : Attributes → Registers → Paths → Cascade → (m : ℕ) → Places → Operands
+heldValues a r s x m places =
+    record {
+      w = heldAt a r s x m (places .w);
+      x = heldAt a r s x m (places .x);
+      y = heldAt a r s x m (places .y);
+      z = heldAt a r s x m (places .z);
+      cin = heldAt a r s x m (places .cin);
+    }
 
 -- ---- rules
 

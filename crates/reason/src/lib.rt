@@ -77,17 +77,20 @@ impl Reason {
     }
 }
 
-// The reason of a slice's result in this clock.
+// The reason of a slice's result in this clock. It is worked out by the places and the rule, apart from the clock's own code.
 pub fn reason_of(a: Attributes, r: Registers, p: Ports, x: Cascade) -> Reason
     ensures { λ v. ⌜ v ≡ reasonOf a r p x ⌝ }
 {
     let k = slice::in_effect(a, r, p);
-    let o = slice::settled_operands(a, r, p, x);
+    let s = slice::routed(a, r, p, x);
+    let places = places::places_of(k);
+    let values = places::values_at(places, a, r, s, x, slice::m_path(a, r, k, s));
+    let rule = rules::rule_of(k.alumode, values.y);
     Reason {
-        values: o,
-        places: places::places_of(k),
-        rule: rules::rule_of(k.alumode, o.y),
+        values: values,
+        places: places,
+        rule: rule,
         lanes: a.use_simd,
-        result: unit::split_result(a.use_simd, k.alumode, o.w, o.x, o.y, o.z, o.cin),
+        result: rules::applied(rule, a.use_simd, values),
     }
 }

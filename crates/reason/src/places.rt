@@ -1,7 +1,13 @@
 // The places that operands are selected from, and which the selects name.
 ghost use mathlib.Core.Path.{_≡_};
-ghost use Rattle.reason.specs.Reason.{placeNumber, wPlace, xPlace, yPlace, zPlace, cinPlace, placesOf, placesNumbers};
+ghost use Rattle.reason.specs.Reason.{placeNumber, wPlace, xPlace, yPlace, zPlace, cinPlace, placesOf, heldAt, heldValues, placesNumbers};
+ghost use Rattle.unit.specs.Choice.{bit};
+use records::Attributes;
+use records::Registers;
+use slice::Cascade;
 use slice::Controls;
+use slice::Operands;
+use slice::Paths;
 
 // An entry of a select: 0, M, P, A:B, all ones, C, PCIN, PCIN shifted, P shifted, RND, the CARRYIN path, a sign or its complement.
 pub enum Place {
@@ -143,5 +149,60 @@ pub fn places_of(k: Controls) -> Places
         y: y_place(select.y),
         z: z_place(select.z),
         cin: cin_place(k.carryinsel),
+    }
+}
+
+// Bit 47.
+fn sign(n: u64) -> u64
+    ensures { λ v. ⌜ v ≡ bit n 47 ⌝ }
+{
+    (n >> 47) % 2
+}
+
+// What a place holds, of the slice's paths s, the cascade x and the M path m.
+fn value_at(place: Place, a: Attributes, r: Registers, s: Paths, x: Cascade, m: u64) -> u64
+    ensures { λ v. ⌜ v ≡ heldAt a r s x m place ⌝ }
+{
+    match place {
+        Place::Zero => 0,
+        Place::M => unit::extend48(m),
+        Place::P => r.p,
+        Place::AB => s.a % 0x4000_0000 * 0x4_0000 + s.b % 0x4_0000,
+        Place::Ones => 0xffff_ffff_ffff,
+        Place::C => s.c,
+        Place::Pcin => x.p,
+        Place::PcinShifted => word::shift17(x.p),
+        Place::PShifted => word::shift17(r.p),
+        Place::Rnd => a.rnd,
+        Place::Carryin => s.carryin,
+        Place::PcinBit47 => sign(x.p),
+        Place::NotPcinBit47 => 1 - sign(x.p),
+        Place::PBit47 => sign(r.p),
+        Place::NotPBit47 => 1 - sign(r.p),
+    }
+}
+
+// What the operands' places hold.
+pub fn values_at(
+    places: Places,
+    a: Attributes,
+    r: Registers,
+    s: Paths,
+    x: Cascade,
+    m: u64,
+) -> Operands
+    ensures { λ o. ⌜ o ≡ heldValues a r s x m places ⌝ }
+{
+    let w_place = places.w;
+    let x_place = places.x;
+    let y_place = places.y;
+    let z_place = places.z;
+    let cin_place = places.cin;
+    Operands {
+        w: value_at(w_place, a, r, s, x, m),
+        x: value_at(x_place, a, r, s, x, m),
+        y: value_at(y_place, a, r, s, x, m),
+        z: value_at(z_place, a, r, s, x, m),
+        cin: value_at(cin_place, a, r, s, x, m),
     }
 }

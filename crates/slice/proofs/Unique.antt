@@ -8,8 +8,12 @@ use Rattle.slice.proofs.inputs.in_effect.Kinds as in-effect
 use Rattle.slice.proofs.inputs.in_effect.Reads as in-effect-reads
 use Rattle.slice.proofs.inputs.selects_of.Kinds as selects-of
 use Rattle.slice.proofs.inputs.selects_of.Reads as selects-of-reads
-use Rattle.slice.proofs.operands.settled_operands.Kinds as settled-operands
-use Rattle.slice.proofs.operands.settled_operands.Reads as settled-operands-reads
+use Rattle.slice.proofs.inputs.routed.Kinds as routed
+use Rattle.slice.proofs.inputs.routed.Reads as routed-reads
+use Rattle.slice.proofs.multiplier.m_path.Kinds as m-path
+use Rattle.slice.proofs.multiplier.m_path.Reads as m-path-reads
+use Rattle.slice.proofs.edge.cascade_of.Kinds as cascade-of
+use Rattle.slice.proofs.edge.cascade_of.Reads as cascade-of-reads
 
 pub stepped-once : Once stepped.ps stepped.r stepped-reads.Post
 stepped-once _ _ _ _ _ _ a b = a ∙ sym b
@@ -20,5 +24,11 @@ in-effect-once _ _ _ _ _ _ a b = a ∙ sym b
 pub selects-of-once : Once selects-of.ps selects-of.r selects-of-reads.Post
 selects-of-once _ _ _ _ _ _ a b = a ∙ sym b
 
-pub settled-operands-once : Once settled-operands.ps settled-operands.r settled-operands-reads.Post
-settled-operands-once _ _ _ _ _ _ a b = a ∙ sym b
+pub routed-once : Once routed.ps routed.r routed-reads.Post
+routed-once _ _ _ _ _ _ a b = a ∙ sym b
+
+pub m-path-once : Once m-path.ps m-path.r m-path-reads.Post
+m-path-once _ _ _ _ _ _ a b = a ∙ sym b
+
+pub cascade-of-once : Once cascade-of.ps cascade-of.r cascade-of-reads.Post
+cascade-of-once _ _ _ _ _ _ a b = a ∙ sym b

@@ -1,6 +1,7 @@
 // One clock of a slice: what settles before the edge, what the slice then shows and hands up, and the registers after it.
 ghost use mathlib.Core.Path.{_≡_};
 ghost use Prim.Native.Nat.{_<_};
+ghost use Rattle.unit.specs.Choice.{mux};
 ghost use Rattle.slice.specs.Slice.{settledOf, outputsOfSettled, cascadeOf, edge, nextOf, stepOf};
 use crate::choice::bit;
 use crate::choice::mux;
@@ -69,6 +70,13 @@ fn handed_up(a: Attributes, r: Registers, s: Paths, p: u64) -> Cascade
         b: pick((a.breg == 2) & (a.bcascreg == 1), r.b1, s.b),
         p: p,
     }
+}
+
+// What a slice hands up, of the result that settles for P.
+pub fn cascade_of(a: Attributes, r: Registers, s: Paths, result: u64) -> Cascade
+    ensures { λ x. ⌜ x ≡ cascadeOf a r s (mux (a .preg) result (r .p)) ⌝ }
+{
+    handed_up(a, r, s, mux(a.preg, result, r.p))
 }
 
 // A register's load, by its bits of RST and CE.

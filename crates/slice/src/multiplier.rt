@@ -1,5 +1,6 @@
 // The pre-adder and the multiplier: what AD and M load.
 ghost use mathlib.Core.Path.{_≡_};
+ghost use Rattle.unit.specs.Choice.{mux};
 ghost use Rattle.slice.specs.Slice.{aSide, dSide, productOf};
 use crate::choice::bit;
 use crate::choice::mux;
@@ -40,4 +41,12 @@ pub fn multiplied(a: Attributes, r: Registers, k: Controls, s: Paths) -> Product
         ad: ad,
         m: unit::multiply(left, right),
     }
+}
+
+// The M path: the register where MREG is 1, else what it loads.
+pub fn m_path(a: Attributes, r: Registers, k: Controls, s: Paths) -> u64
+    ensures { λ m. ⌜ m ≡ mux (a .mreg) (productOf a r k s .m) (r .m) ⌝ }
+{
+    let t = multiplied(a, r, k, s);
+    mux(a.mreg, t.m, r.m)
 }

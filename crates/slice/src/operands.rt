@@ -5,18 +5,13 @@ ghost use Prim.Native.Nat.{_-_};
 ghost use Rattle.word.specs.Word.{extend, shifted};
 ghost use Rattle.unit.specs.Choice.{choose, bit};
 ghost use Rattle.unit.specs.Unit.{ones};
-ghost use Rattle.slice.specs.Slice.{joined, operandsOf, sliceOperands};
+ghost use Rattle.slice.specs.Slice.{joined, operandsOf};
 use crate::choice::bit;
-use crate::choice::mux;
 use crate::inputs::Cascade;
 use crate::inputs::Controls;
 use crate::inputs::Paths;
-use crate::inputs::in_effect;
-use crate::inputs::routed;
 use crate::inputs::selects_of;
-use crate::multiplier::multiplied;
 use records::Attributes;
-use records::Ports;
 use records::Registers;
 
 pub struct Operands {
@@ -105,14 +100,4 @@ pub fn selected(a: Attributes, r: Registers, k: Controls, s: Paths, x: Cascade, 
         z: z_operand(select.z, x.p, r.p, s.c),
         cin: carry_in(k.carryinsel, s.carryin, x.p, r.p),
     }
-}
-
-// The operands of a slice, of all that it reads, for callers that ask for them alone.
-pub fn settled_operands(a: Attributes, r: Registers, p: Ports, x: Cascade) -> Operands
-    ensures { λ o. ⌜ o ≡ sliceOperands a r p x ⌝ }
-{
-    let k = in_effect(a, r, p);
-    let s = routed(a, r, p, x);
-    let t = multiplied(a, r, k, s);
-    selected(a, r, k, s, x, mux(a.mreg, t.m, r.m))
 }

@@ -5,7 +5,9 @@ use mathlib.Core.Path.{_≡_, refl, ap, ap₂, sym, subst, _∙_}
 use native.Mathlib.Nat.{le-refl, le-trans, lt-of-lt-of-le, mul-le-mul, mul-suc, zero-mul, suc-mul, add-comm, div-one, mod-lt, mod-mod, mod-add-mod, mod-eq-of-lt, div-add-mod'}
 use native.Mathlib.Omega.{arith}
 use mathlib.Core.Bool.{Bool, true, false, cond}
+use mathlib.Core.List.{[], _∷_}
 use lib.Dec.{eqb, leb, ltb, lit≤, lit<}
+use lib.ListN.{List·getD-eq-default}
 use lib.Arith.{digits-lt, digits-div, digits-mod}
 use lib.Pow.{pow-pos, pow-mono, pow-add, shr-shr}
 use lib.IntN.{pos, negℤ, _+ℤ_, _-ℤ_, +ℤ-assoc, +ℤ-comm}
@@ -154,6 +156,29 @@ module _ (width : ℕ) where
       ∙ ap (laneOf i) (digits-div (lanes width n mode (above w) (above x) (above y) (above z) 0) (arithmetic-lt width mode (low w) (low x) (low y) (low z) cin))
       ∙ lane-of-lanes n i mode (above w) (above x) (above y) (above z) 0 (omega arith)
       ∙ ap (arithmetic width mode (laneOf i (above w)) (laneOf i (above x)) (laneOf i (above y)) (laneOf i (above z))) (no-carry i))
+
+-- a mode past the arithmetic ones gives 0 in every lane
+no-arithmetic : (width mode w x y z cin : ℕ) → 4 ≤ mode → arithmetic width mode w x y z cin ≡ 0
+unfolding arithmetic
+no-arithmetic width mode w x y z cin h =
+    List·getD-eq-default
+    (word width (pos (z + w + x + y + cin))
+    ∷ word width ((pos (ones width) -ℤ pos z) +ℤ pos (w + x + y + cin))
+    ∷ word width (pos (ones width) -ℤ pos (z + w + x + y + cin))
+    ∷ word width (pos z -ℤ pos (w + x + y + cin))
+    ∷ [])
+    0
+    h
+
+pub no-lanes : (width count mode w x y z cin : ℕ) → 4 ≤ mode → lanes width count mode w x y z cin ≡ 0
+unfolding lanes
+no-lanes width zero mode w x y z cin h = refl
+no-lanes width (suc n) mode w x y z cin h =
+    rw (
+      no-lanes width n mode (w / 2 ^ width) (x / 2 ^ width) (y / 2 ^ width) (z / 2 ^ width) 0 h,
+      no-arithmetic width mode (w % 2 ^ width) (x % 2 ^ width) (y % 2 ^ width) (z % 2 ^ width) cin h,
+      zero-mul,
+    )
 
 -- the lowest lane stands below the rest
 lanes-suc : (width n mode w x y z cin : ℕ)

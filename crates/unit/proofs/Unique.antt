@@ -14,6 +14,8 @@ use Rattle.unit.proofs.detect.Kinds as detect-kinds
 use Rattle.unit.proofs.detect.Reads as detect-reads
 use Rattle.unit.proofs.load.Kinds as load-kinds
 use Rattle.unit.proofs.load.Reads as load-reads
+use Rattle.unit.proofs.in_lanes.Kinds as in-lanes-kinds
+use Rattle.unit.proofs.in_lanes.Reads as in-lanes-reads
 use Rattle.unit.proofs.adder.Kinds as adder-kinds
 use Rattle.unit.proofs.adder.Reads as adder-reads
 
@@ -34,6 +36,9 @@ detect-once _ _ _ _ _ _ a b = a ∙ sym b
 
 pub load-once : Once load-kinds.ps load-kinds.r load-reads.Post
 load-once _ _ _ _ _ _ a b = a ∙ sym b
+
+pub in-lanes-once : Once in-lanes-kinds.ps in-lanes-kinds.r in-lanes-reads.Post
+in-lanes-once _ _ _ _ _ _ a b = a ∙ sym b
 
 pub adder-once : Once adder-kinds.ps adder-kinds.r adder-reads.Post
 adder-once _ _ _ _ _ _ a b = a ∙ sym b

@@ -4,7 +4,7 @@ ghost use mathlib.Core.Path.{_≡_};
 ghost use mathlib.Core.Bool.{cond};
 ghost use Prim.Native.Nat.{_<_, _^_};
 ghost use Rattle.word.specs.Word.{extend};
-ghost use Rattle.unit.specs.Unit.{byY, logicRows, unitResult, splitResult, preAdder, product, load, within, forbidden, adder};
+ghost use Rattle.unit.specs.Unit.{byY, lanes, laneWidth, laneCount, logicRows, unitResult, splitResult, preAdder, product, load, within, forbidden, adder};
 ghost use Rattle.unit.specs.Detector.{detected};
 
 mod arithmetic;
@@ -73,6 +73,17 @@ pub fn split_result(simd: u64, mode: u64, w: u64, x: u64, y: u64, z: u64, cin: u
         arithmetic::lane(48, mode, w, x, y, z, cin)
     } else {
         split_or_logic(simd, mode, w, x, y, z, cin)
+    }
+}
+
+// An arithmetic mode in USE_SIMD's lanes, for callers that know it to be one; any other mode is 0.
+pub fn in_lanes(simd: u64, mode: u64, w: u64, x: u64, y: u64, z: u64, cin: u64) -> u64
+    ensures { λ r. ⌜ r ≡ lanes (laneWidth simd) (laneCount simd) mode w x y z cin ⌝ }
+{
+    if mode < 4 {
+        arithmetic::by_simd(simd, mode, w, x, y, z, cin)
+    } else {
+        0
     }
 }
 
