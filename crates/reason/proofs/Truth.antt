@@ -27,7 +27,7 @@ use Rattle.reason.specs.declared.places.Place.the-variants.{Zero, M, P, 
 use Rattle.reason.specs.declared.rules.Rule.{Rule}
 use Rattle.reason.specs.declared.rules.Rule.the-variants.{NoRule, Sum, SumNotZ, NotSum, Difference, Xor, Xnor, And, Or, AndNotZ, OrNotZ, Nand, Nor, NotXOrZ, NotXAndZ}
 use Rattle.reason.specs.declared.Reason.{Reason}
-use Rattle.reason.specs.Reason.{placesOf, heldAt, valueAt, heldValues, byYRule, ruleOf, applied, reasonOf}
+use Rattle.reason.specs.Reason.{placesOf, heldAt, valueAt, heldValues, ruleOf, inLanes, applied, reasonOf}
 
 -- ---- the places
 
@@ -122,24 +122,28 @@ module _ (simd : ℕ) (o : Operands) where
     abbrev carry : ℕ
     carry = carryOf (laneWidth simd) i (o .cin)
 
+    by-mode : (mode : ℕ) → lane (inLanes simd mode o)
+        ≡ arithmetic (laneWidth simd) mode (lane (o .w)) (lane (o .x)) (lane (o .y)) (lane (o .z)) carry
+    by-mode mode = lane-of-lanes (laneWidth simd) (laneCount simd) i mode (o .w) (o .x) (o .y) (o .z) (o .cin) some
+
     pub sum-in-lane : lane (applied Sum simd o) ≡ word (laneWidth simd) (pos (lane (o .z) + lane (o .w) + lane (o .x) + lane (o .y) + carry))
     unfolding applied arithmetic
-    sum-in-lane = lane-of-lanes (laneWidth simd) (laneCount simd) i 0 (o .w) (o .x) (o .y) (o .z) (o .cin) some
+    sum-in-lane = by-mode 0
 
     pub sum-not-z-in-lane : lane (applied SumNotZ simd o)
         ≡ word (laneWidth simd) ((pos (ones (laneWidth simd)) -ℤ pos (lane (o .z))) +ℤ pos (lane (o .w) + lane (o .x) + lane (o .y) + carry))
     unfolding applied arithmetic
-    sum-not-z-in-lane = lane-of-lanes (laneWidth simd) (laneCount simd) i 1 (o .w) (o .x) (o .y) (o .z) (o .cin) some
+    sum-not-z-in-lane = by-mode 1
 
     pub not-sum-in-lane : lane (applied NotSum simd o)
         ≡ word (laneWidth simd) (pos (ones (laneWidth simd)) -ℤ pos (lane (o .z) + lane (o .w) + lane (o .x) + lane (o .y) + carry))
     unfolding applied arithmetic
-    not-sum-in-lane = lane-of-lanes (laneWidth simd) (laneCount simd) i 2 (o .w) (o .x) (o .y) (o .z) (o .cin) some
+    not-sum-in-lane = by-mode 2
 
     pub difference-in-lane : lane (applied Difference simd o)
         ≡ word (laneWidth simd) (pos (lane (o .z)) -ℤ pos (lane (o .w) + lane (o .x) + lane (o .y) + carry))
     unfolding applied arithmetic
-    difference-in-lane = lane-of-lanes (laneWidth simd) (laneCount simd) i 3 (o .w) (o .x) (o .y) (o .z) (o .cin) some
+    difference-in-lane = by-mode 3
 
 -- ---- the result
 

@@ -57,7 +57,8 @@ impl Reason {
         ensures { λ v. ⌜ v ≡ reasonWords self ⌝ }
     {
         let values = self.values;
-        let places = self.places.numbers();
+        let places = self.places;
+        let numbers = places::places_numbers(places);
         let rule = self.rule;
         [
             values.w,
@@ -65,11 +66,11 @@ impl Reason {
             values.y,
             values.z,
             values.cin,
-            places[0],
-            places[1],
-            places[2],
-            places[3],
-            places[4],
+            numbers[0],
+            numbers[1],
+            numbers[2],
+            numbers[3],
+            numbers[4],
             rules::rule_number(rule),
             self.lanes,
             self.result,

@@ -37,27 +37,7 @@ pub struct Places {
     pub cin: Place,
 }
 
-impl Places {
-    // As words, in the operands' order.
-    pub fn numbers(self) -> [u64; 5]
-        ensures { λ v. ⌜ v ≡ placesNumbers self ⌝ }
-    {
-        let w = self.w;
-        let x = self.x;
-        let y = self.y;
-        let z = self.z;
-        let cin = self.cin;
-        [
-            place_number(w),
-            place_number(x),
-            place_number(y),
-            place_number(z),
-            place_number(cin),
-        ]
-    }
-}
-
-pub fn place_number(place: Place) -> u64
+fn place_number(place: Place) -> u64
     ensures { λ n. ⌜ n ≡ placeNumber place ⌝ }
 {
     match place {
@@ -77,6 +57,24 @@ pub fn place_number(place: Place) -> u64
         Place::PBit47 => 13,
         Place::NotPBit47 => 14,
     }
+}
+
+// The places as words, in the operands' order.
+pub fn places_numbers(places: Places) -> [u64; 5]
+    ensures { λ v. ⌜ v ≡ placesNumbers places ⌝ }
+{
+    let w = places.w;
+    let x = places.x;
+    let y = places.y;
+    let z = places.z;
+    let cin = places.cin;
+    [
+        place_number(w),
+        place_number(x),
+        place_number(y),
+        place_number(z),
+        place_number(cin),
+    ]
 }
 
 fn w_place(select: u64) -> Place

@@ -6,7 +6,7 @@ use Rattle.reason.proofs.Reason.words.Tie as tie
 
 returns : tie.Need-returns
 unfolding reasonWords
-returns c = rw (c .rule-number .ensures, c .before .numbers .ensures)
+returns c = rw (c .rule-number .ensures, c .before .places-numbers .ensures)
 
 pub words-spec : {M : Type 1} → statement M
 words-spec =
