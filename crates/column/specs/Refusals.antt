@@ -114,7 +114,7 @@ attributesAnswer count at =
     unless (countFits count) BadCount (unless (eqb (length at) (attributeWords * count)) BadLength
     (refuse Attribute (lowest (fails Attribute at [] []) count) Accepted))
 
--- the same lengths where no outputs are lent
+-- 2, where no outputs are lent
 unfoldable pub inputsFit : (count : ℕ) → (at rs ps : List ℕ) → Bool
 inputsFit count at rs ps =
     eqb (length at) (attributeWords * count) && eqb (length rs) (registerWords * count) && eqb (length ps) (portWords * count)

@@ -1,6 +1,8 @@
 // The places that operands are selected from, and which the selects name.
 ghost use mathlib.Core.Path.{_≡_};
-ghost use Rattle.reason.specs.Reason.{placeNumber, wPlace, xPlace, yPlace, zPlace, cinPlace, placesOf, heldAt, heldValues, placesNumbers};
+ghost use mathlib.Core.List.{[], _∷_};
+ghost use Rattle.reason.specs.declared.places.Place.the-variants.{Zero};
+ghost use Rattle.reason.specs.Reason.{placeNumber, named, zPlace, cinPlace, placesOf, heldAt, heldValues, placesNumbers};
 ghost use Rattle.unit.specs.Choice.{bit};
 use records::Attributes;
 use records::Registers;
@@ -77,35 +79,14 @@ pub fn places_numbers(places: Places) -> [u64; 5]
     ]
 }
 
-fn w_place(select: u64) -> Place
-    ensures { λ v. ⌜ v ≡ wPlace select ⌝ }
+// A select that names the place 0 and three others.
+fn one_of(select: u64, first: Place, second: Place, third: Place) -> Place
+    ensures { λ v. ⌜ v ≡ named (Zero ∷ first ∷ second ∷ third ∷ []) select ⌝ }
 {
     match select {
-        1 => Place::P,
-        2 => Place::Rnd,
-        3 => Place::C,
-        _ => Place::Zero,
-    }
-}
-
-fn x_place(select: u64) -> Place
-    ensures { λ v. ⌜ v ≡ xPlace select ⌝ }
-{
-    match select {
-        1 => Place::M,
-        2 => Place::P,
-        3 => Place::AB,
-        _ => Place::Zero,
-    }
-}
-
-fn y_place(select: u64) -> Place
-    ensures { λ v. ⌜ v ≡ yPlace select ⌝ }
-{
-    match select {
-        1 => Place::Zero, // M, which X contributes
-        2 => Place::Ones,
-        3 => Place::C,
+        1 => first,
+        2 => second,
+        3 => third,
         _ => Place::Zero,
     }
 }
@@ -142,9 +123,10 @@ pub fn places_of(k: Controls) -> Places
 {
     let select = slice::selects_of(k.opmode);
     Places {
-        w: w_place(select.w),
-        x: x_place(select.x),
-        y: y_place(select.y),
+        w: one_of(select.w, Place::P, Place::Rnd, Place::C),
+        x: one_of(select.x, Place::M, Place::P, Place::AB),
+        // M, which X contributes, leaves Y the place 0.
+        y: one_of(select.y, Place::Zero, Place::Ones, Place::C),
         z: z_place(select.z),
         cin: cin_place(k.carryinsel),
     }

@@ -10,9 +10,9 @@ returns c =
     let at-x = c .before .before .before in
     let select = at-x .before .before .selects-of .ensures in
     λ i. record {
-      w = (rw select at (at-x .before .w-place .ensures)) i;
-      x = (rw select at (at-x .x-place .ensures)) i;
-      y = (rw select at (c .before .before .y-place .ensures)) i;
+      w = (rw select at (at-x .before .one-of .ensures)) i;
+      x = (rw select at (at-x .one-of2 .ensures)) i;
+      y = (rw select at (c .before .before .one-of3 .ensures)) i;
       z = (rw select at (c .before .z-place .ensures)) i;
       cin = (c .cin-place .ensures) i;
     }
