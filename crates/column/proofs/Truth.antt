@@ -3,20 +3,19 @@ use Prim.Native.Nat.{ℕ, _*_, _<_}
 use mathlib.Core.Path.{_≡_, refl, ap, subst⁻¹, _∙_}
 use mathlib.Core.Bool.{Bool, true, false, _&&_}
 use mathlib.Core.List.{List}
-use lib.Dec.{eqb, ltb}
 use lib.ListN.{length, getD}
 use borrow.Author.Tests.{eq-eqb, lt-ltb}
 use Rattle.lent.specs.Refusing.{unless, leaves}
 use Rattle.unit.specs.Choice.{bit}
-use Rattle.records.specs.Records.{registerWords, outputWords, registersOf}
+use Rattle.records.specs.Records.{registerWords, outputWords}
 use Rattle.slice.specs.Slice.{sliceSettled}
 use Rattle.reason.specs.declared.Reason.{Reason}
 use Rattle.reason.specs.Reason.{applied, noReason}
 use Rattle.reason.proofs.Truth.{Placed, places-true, result-settles, result-by-rule, result-shows, result-loads}
 use Rattle.column.specs.declared.Answer.{Answer}
-use Rattle.column.specs.declared.Answer.the-variants.{Accepted, BadCount, BadLength, BadSlice}
+use Rattle.column.specs.declared.Answer.the-variants.{Accepted, BadCount, BadLength}
 use Rattle.column.specs.Column.{stretch, attributesAt, registersAt, portsAt, cascadeInto, shownAt, nextAt, columnShown, columnNext}
-use Rattle.column.specs.Refusals.{numberOf, settings, countFits, lengthsFit, inputsFit, clockAnswer, whyAnswer}
+use Rattle.column.specs.Refusals.{numberOf, settings, countFits, inputsFit, clockAnswer, whyAnswer}
 use Rattle.column.specs.Calls.{reasonAt, whyOf}
 use Rattle.column.proofs.Stacks.{stretch-stacked}
 use Rattle.column.proofs.Edges.{next-length, shown-length}

@@ -1,7 +1,7 @@
 -- The reason is the true one (02, Ask 3): each value is what its place holds in this clock; the rule applied to the values, in its lanes, is
 -- the unit's result, which shows as P with PREG 0, and which register P loads. For every slice, whatever its settings. Assumes nothing.
 use Prim.Native.Nat.{ℕ, zero, suc, _+_, _-_, _%_, _^_, _<_}
-use mathlib.Core.Path.{_≡_, refl, sym, ap, _∙_}
+use mathlib.Core.Path.{_≡_, refl, sym, ap}
 use mathlib.Core.Bool.{Bool, true, false, cond}
 use mathlib.Core.List.{List, [], _∷_}
 use lib.Dec.{eqb, ltb}
@@ -22,7 +22,6 @@ use Rattle.slice.specs.declared.inputs.Controls.{Controls}
 use Rattle.slice.specs.declared.inputs.Paths.{Paths}
 use Rattle.slice.specs.declared.operands.Operands.{Operands}
 use Rattle.slice.specs.Slice.{controlsOf, selectsOf, pathsOf, productOf, operandsOf, sliceOperands, resultOf, settledOf, sliceSettled, outputsOfSettled, sliceOutputs, edge, nextOf, sliceNext}
-use Rattle.reason.specs.declared.places.Place.{Place}
 use Rattle.reason.specs.declared.places.Place.the-variants.{Zero, M, P, AB, Ones, C, Pcin, PcinShifted, PShifted, Rnd, Carryin, PcinBit47, NotPcinBit47, PBit47, NotPBit47}
 use Rattle.reason.specs.declared.rules.Rule.{Rule}
 use Rattle.reason.specs.declared.rules.Rule.the-variants.{NoRule, Sum, SumNotZ, NotSum, Difference, Xor, Xnor, And, Or, AndNotZ, OrNotZ, Nand, Nor, NotXOrZ, NotXAndZ}
