@@ -118,6 +118,11 @@ static void lengths(void)
         cleared_column(count);
         fill(&attributes, count * DSP_ATTRIBUTE_USE_SIMD, 0);
         expect_refusal(clock_of(count), DSP_BAD_LENGTH, 0, "21 attributes a slice");
+        cleared_column(count);
+        fill(&outputs, count * DSP_OUTPUT_PREADDWRAP, 77);
+        expect_refusal(clock_of(count), DSP_BAD_LENGTH, 0, "5 outputs a slice");
+        fill(&outputs, count * (DSP_OUTPUT_WORDS + 1), 77);
+        expect_refusal(clock_of(count), DSP_BAD_LENGTH, 0, "7 outputs a slice");
     }
 }
 
@@ -377,6 +382,33 @@ static const unsigned attribute_widths[] = DSP_ATTRIBUTE_WIDTHS;
 static const unsigned register_widths[] = DSP_REGISTER_WIDTHS;
 static const unsigned port_widths[] = DSP_PORT_WIDTHS;
 
+/* An INMODE that the slice's attributes allow. */
+static uint64_t draw_inmode(const uint64_t *a)
+{
+    uint64_t allowed = CLEAR_A;
+    if (a[DSP_ATTRIBUTE_AREG])
+        allowed |= TAKE_A1;
+    if (a[DSP_ATTRIBUTE_AMULTSEL])
+        allowed |= TAKE_D | SUBTRACT;
+    if (a[DSP_ATTRIBUTE_BREG])
+        allowed |= TAKE_B1;
+    return draw() & allowed;
+}
+
+/* Both numbers of the pre-adder are boundaries of 27 bits, and are let in: the true sum is often at an end, or one past it. */
+static void draw_pre_adder(uint64_t *a, uint64_t *r, uint64_t *p)
+{
+    static const uint64_t boundaries[] = { 0, 1, 0x7ffffff, 0x4000000, 0x3ffffff };
+    a[DSP_ATTRIBUTE_AMULTSEL] = 1;
+    p[DSP_PORT_INMODE] = (draw_inmode(a) & ~(uint64_t)CLEAR_A) | TAKE_D;
+    r[DSP_REGISTER_INMODE] = (draw_inmode(a) & ~(uint64_t)CLEAR_A) | TAKE_D;
+    p[DSP_PORT_D] = boundaries[draw() % 5];
+    r[DSP_REGISTER_D] = boundaries[draw() % 5];
+    p[DSP_PORT_A] = boundaries[draw() % 5];
+    r[DSP_REGISTER_A1] = boundaries[draw() % 5];
+    r[DSP_REGISTER_A2] = boundaries[draw() % 5];
+}
+
 /*
  * Mostly legal: the lists are kept, and the control words are those of a sum of A:B, C and PCIN, in lanes or not, or of a
  * product.
@@ -403,10 +435,12 @@ static void draw_slice(uint64_t *a, uint64_t *r, uint64_t *p)
     r[DSP_REGISTER_OPMODE] = opmodes[draw() % sums];
     p[DSP_PORT_ALUMODE] = draw() % 4;
     r[DSP_REGISTER_ALUMODE] = draw() % 4;
-    p[DSP_PORT_INMODE] = (draw() & 14) * a[DSP_ATTRIBUTE_AMULTSEL];
-    r[DSP_REGISTER_INMODE] = (draw() & 14) * a[DSP_ATTRIBUTE_AMULTSEL];
+    p[DSP_PORT_INMODE] = draw_inmode(a);
+    r[DSP_REGISTER_INMODE] = draw_inmode(a);
     p[DSP_PORT_CARRYINSEL] = draw() % 2;
     r[DSP_REGISTER_CARRYINSEL] = draw() % 2 * 3;
+    if (draw() % 4 == 0)
+        draw_pre_adder(a, r, p);
 }
 
 size_t draw_column(void)
@@ -433,10 +467,12 @@ static void random_clock(unsigned long *accepted)
     uint64_t word = clock_of(count);
     *accepted += word == 0;
     for (size_t k = 0; word == 0 && k < count; k++)
-        accepted_in[DSP_WORD(lend(&attributes), DSP_ATTRIBUTE_WORDS, k, DSP_ATTRIBUTE_USE_SIMD)]++;
+        accepted_in[ATTRIBUTE(k, USE_SIMD)]++;
     expect(word == other, "the archive and the model return the same word");
     expect(memcmp(other_registers, lend(&registers), registers.length * sizeof other_registers[0]) == 0, "the same registers");
     expect(memcmp(other_outputs, lend(&outputs), outputs.length * sizeof other_outputs[0]) == 0, "the same outputs");
+    if (word == 0)
+        count_preaddwraps(count);
 }
 
 static void random_adder(void)
@@ -476,6 +512,7 @@ static void by_hand(void)
     lanes();
     flags_by_registers();
     sums_and_flags();
+    preaddwrap_by_hand();
     why_by_hand();
     clearing();
     adder();
@@ -498,6 +535,7 @@ int main(int argc, char **argv)
     expect(accepted * 10 > calls, "one random clock in ten is accepted");
     printf("slices in accepted clocks: %lu of one lane, %lu of two, %lu of four\n", accepted_in[0], accepted_in[1], accepted_in[2]);
     expect(accepted_in[1] * 20 > calls && accepted_in[2] * 20 > calls, "an accepted slice in lanes for every 20 random clocks");
+    tell_preaddwraps(calls);
     for (uint64_t terms = 1; terms <= DSP_MOST_TERMS; terms++)
         for (uint64_t rows = 1; rows <= DSP_MOST_ROWS; rows *= 8)
             random_packed(terms, rows);

@@ -19,11 +19,20 @@ struct lent {
 
 extern struct lent attributes, registers, ports, outputs;
 
+/* Slice k's word of that name in the lent words. */
+#define ATTRIBUTE(k, name) DSP_WORD(lend(&attributes), DSP_ATTRIBUTE_WORDS, k, DSP_ATTRIBUTE_##name)
+#define REGISTER(k, name) DSP_WORD(lend(&registers), DSP_REGISTER_WORDS, k, DSP_REGISTER_##name)
+#define PORT(k, name) DSP_WORD(lend(&ports), DSP_PORT_WORDS, k, DSP_PORT_##name)
+#define OUTPUT(k, name) DSP_WORD(lend(&outputs), DSP_OUTPUT_WORDS, k, DSP_OUTPUT_##name)
+
 uint64_t *lend(struct lent *lent);
 void fill(struct lent *lent, size_t length, uint64_t value);
 void keep(struct lent *lent);
 int kept(const struct lent *lent);
 int guarded(const struct lent *lent);
+
+/* The bits of INMODE. */
+enum { TAKE_A1 = 1, CLEAR_A = 2, TAKE_D = 4, SUBTRACT = 8, TAKE_B1 = 16 };
 
 /* Every word 0 but the outputs, which are 77. */
 void cleared_column(size_t count);
@@ -35,6 +44,11 @@ uint64_t draw(void);
 
 /* A random column, mostly legal; returns its slices. */
 size_t draw_column(void);
+
+/* bench/preaddwrap.c: the pre-adder's mark by hand; the marks of an accepted random clock; what so many clocks met. */
+void preaddwrap_by_hand(void);
+void count_preaddwraps(size_t count);
+void tell_preaddwraps(unsigned long clocks);
 
 /* bench/why.c: dsp_why by hand, and so many random calls of it. */
 void why_by_hand(void);

@@ -9,9 +9,6 @@
 #include <string.h>
 
 #define ONES (DSP_REFUSED - 1)
-#define ATTRIBUTE(k, name) DSP_WORD(lend(&attributes), DSP_ATTRIBUTE_WORDS, k, DSP_ATTRIBUTE_##name)
-#define REGISTER(k, name) DSP_WORD(lend(&registers), DSP_REGISTER_WORDS, k, DSP_REGISTER_##name)
-#define PORT(k, name) DSP_WORD(lend(&ports), DSP_PORT_WORDS, k, DSP_PORT_##name)
 
 static struct lent why;
 
@@ -410,10 +407,6 @@ static void draw_controls(const uint64_t *a, uint64_t *r, uint64_t *p)
     r[DSP_REGISTER_ALUMODE] = logic ? logic_modes[draw() % 8] : draw() % 4;
     p[DSP_PORT_CARRYINSEL] = carries[draw() % carry_count];
     r[DSP_REGISTER_CARRYINSEL] = carries[draw() % carry_count];
-    if (a[DSP_ATTRIBUTE_AREG])
-        p[DSP_PORT_INMODE] |= draw() & 1, r[DSP_REGISTER_INMODE] |= draw() & 1;
-    if (a[DSP_ATTRIBUTE_BREG])
-        p[DSP_PORT_INMODE] |= draw() & 16, r[DSP_REGISTER_INMODE] |= draw() & 16;
 }
 
 /* One call in ten or so is asked amiss: of another count, of no slice, or with a length off. */
@@ -442,7 +435,7 @@ static void held_against_the_archive(uint64_t count, uint64_t k, uint64_t word)
         added++;
     }
     if (ATTRIBUTE(k, PREG) == 0) {
-        expect(DSP_WORD(lend(&outputs), DSP_OUTPUT_WORDS, k, DSP_OUTPUT_P) == v[DSP_WHY_RESULT], "P shows the result");
+        expect(OUTPUT(k, P) == v[DSP_WHY_RESULT], "P shows the result");
         shown++;
     }
     if (PORT(k, CE) & DSP_CE_P && !(PORT(k, RST) & DSP_RST_P)) {

@@ -21,13 +21,14 @@ extern "C" {
 
 /*
  * The version of this header. The major number rises when a count or a meaning changes, the minor one when something comes
- * to it that changes neither. Major 1 had 21 attributes a slice, major 2 has 22. A caller that was compiled against older
- * counts lends other lengths than are required, and is refused by number 2. Major 3 has the counts of major 2, and other
+ * to it that changes neither. A caller that was compiled against older counts lends other lengths than are required, and is
+ * refused by number 2. Major 1 had 21 attributes a slice, major 2 has 22. Major 3 has the counts of major 2, and other
  * OVERFLOW and UNDERFLOW: a P that swings through 0 within its range shows neither any more. Version 3.1 adds dsp_why with
- * its enums, and number 13; what 3.0 has is as it was.
+ * its enums, and number 13; what 3.0 has is as it was. Major 4 has 6 outputs a slice, where there were 5: PREADDWRAP is the
+ * last, and what 3.1 has is as it was.
  */
-#define DSP_VERSION_MAJOR 3
-#define DSP_VERSION_MINOR 1
+#define DSP_VERSION_MAJOR 4
+#define DSP_VERSION_MINOR 0
 
 /* The refusal rule, and what takes a refusal apart. */
 #define DSP_REFUSED (UINT64_C(1) << 48)
@@ -139,6 +140,11 @@ enum dsp_port {
  * UNDERFLOW where PBDPAST is 1 and PD and PBD are both 0, all read from the registers; with PREG 0 both are 0. With
  * PATTERN 0 and MASK 2^46 - 1 the sums from -2^46 to 2^46 - 1 are in range: a P that leaves it from 0 or above shows
  * OVERFLOW, one that leaves it from below 0 UNDERFLOW, and one that swings through 0 within it neither.
+ *
+ * PREADDWRAP tells that the pre-adder wrapped: it is 1 where the true sum D + A or difference D - A, of the signed 27-bit
+ * numbers that INMODE lets in, is below -67108864 or above 67108863, so that the 27 bits which go into AD are not it. Inputs
+ * kept to signed numbers of 26 bits each never light it. It settles in every slice from what the pre-adder is given in this
+ * clock, whether the sum is used or not: no register holds it, and neither ADREG nor PREG delays it.
  */
 enum dsp_output {
     DSP_OUTPUT_P = 0,
@@ -146,7 +152,8 @@ enum dsp_output {
     DSP_OUTPUT_PATTERNBDETECT = 2,
     DSP_OUTPUT_OVERFLOW = 3,
     DSP_OUTPUT_UNDERFLOW = 4,
-    DSP_OUTPUT_WORDS = 5
+    DSP_OUTPUT_PREADDWRAP = 5,
+    DSP_OUTPUT_WORDS = 6
 };
 
 /*

@@ -9,7 +9,7 @@
 typedef char attributes_are_22_words[ATTRIBUTE_WORDS == 22 ? 1 : -1];
 typedef char registers_are_18_words[REGISTER_WORDS == 18 ? 1 : -1];
 typedef char ports_are_11_words[PORT_WORDS == 11 ? 1 : -1];
-typedef char outputs_are_5_words[OUTPUT_WORDS == 5 ? 1 : -1];
+typedef char outputs_are_6_words[OUTPUT_WORDS == 6 ? 1 : -1];
 typedef char why_is_13_words[WHY_WORDS == 13 ? 1 : -1];
 
 static const unsigned register_width[] = {
@@ -289,9 +289,24 @@ static uint64_t carry_in(const struct attributes *at, const struct registers *rg
 /* The wires that the registers load from. */
 struct wires {
     uint64_t ain, bin, ad, m, p, pd, pbd;
+    uint64_t preaddwrap; /* shown only: no register loads it */
 };
 
-/* Settles the multiplier's side: w->ad and w->m. */
+/* The ends of the signed 27-bit numbers. */
+#define LEAST27 (-67108864)
+#define MOST27 67108863
+
+/* Settles the pre-adder: w->ad, and w->preaddwrap where AD's 27 bits are not the true sum. */
+static void pre_add(uint64_t d, uint64_t a, int subtract, struct wires *w)
+{
+    int64_t signed_d = as_signed(d, 27), signed_a = as_signed(a, 27);
+    int64_t true_sum = subtract ? signed_d - signed_a : signed_d + signed_a;
+
+    w->ad = (uint64_t)true_sum & ONES(27);
+    w->preaddwrap = true_sum < LEAST27 || true_sum > MOST27;
+}
+
+/* Settles the multiplier's side: the pre-adder, and w->m. */
 static void multiply(const struct attributes *at, const struct registers *rg,
                      const struct ports *po, uint64_t inmode,
                      uint64_t apath, uint64_t bpath, struct wires *w)
@@ -304,7 +319,7 @@ static void multiply(const struct attributes *at, const struct registers *rg,
         a = 0;
     if (!(inmode & 4))
         d = 0;
-    w->ad = (inmode & 8 ? d - a : d + a) & ONES(27);
+    pre_add(d, a, (inmode & 8) != 0, w);
     left = !at->amultsel ? a : at->adreg ? rg->ad : w->ad;
     right = inmode & 16 ? rg->b1 : bpath;
     w->m = (uint64_t)(as_signed(left, 27) * as_signed(right, 18)) & ONES(45);
@@ -394,6 +409,8 @@ static void slice(const struct attributes *at, struct registers *rg, const struc
     /* Only while PD and PBD are both 0: a swing through 0 lights neither (02, Ask 2). */
     out->overflow = at->preg && rg->pdpast && !rg->pd && !rg->pbd;
     out->underflow = at->preg && rg->pbdpast && !rg->pd && !rg->pbd;
+    /* Of what goes into AD in this clock, whether AD and P are registers or not (02, Ask 4). */
+    out->preaddwrap = w.preaddwrap;
     cas->a = at->areg == 2 && at->acascreg == 1 ? rg->a1 : apath;
     cas->b = at->breg == 2 && at->bcascreg == 1 ? rg->b1 : bpath;
     cas->p = out->p;
@@ -634,7 +651,7 @@ uint64_t column_packed(uint64_t terms, uint64_t rows,
     memset(rg, 0, sizeof rg);
     for (clock = 0; clock < clocks; clock++) {
         struct cascade cas = { 0, 0, 0 };
-        struct outputs out = { 0, 0, 0, 0, 0 };
+        struct outputs out = { .p = 0 };
 
         for (k = 0; k < terms; k++) {
             struct ports po = { .opmode = 21, .inmode = 4, .ce = 8191 };

@@ -37,6 +37,7 @@ struct ports {
 
 struct outputs {
     uint64_t p, patterndetect, patternbdetect, overflow, underflow;
+    uint64_t preaddwrap;
 };
 
 /* Where a slice's P came from: the settled operands, the place of each, the rule. */

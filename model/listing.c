@@ -114,6 +114,19 @@ static int want(char tag, uint64_t *numbers, size_t least, size_t most, int may_
     return 1;
 }
 
+static void print_outputs(const struct outputs *outputs, uint64_t count)
+{
+    unsigned k;
+
+    for (k = 0; k < count; k++) {
+        const struct outputs *o = &outputs[k];
+
+        printf("O\t%llu\t%u\t%llu\t%u\t%u\t%u\t%u\t%u\n", clocks, k, (unsigned long long)o->p,
+               (unsigned)o->patterndetect, (unsigned)o->patternbdetect,
+               (unsigned)o->overflow, (unsigned)o->underflow, (unsigned)o->preaddwrap);
+    }
+}
+
 int main(void)
 {
     static uint64_t attributes[COLUMN_TALLEST * ATTRIBUTE_WORDS];
@@ -135,13 +148,7 @@ int main(void)
                                  registers, count * REGISTER_WORDS,
                                  ports, count * PORT_WORDS,
                                  outputs, count * OUTPUT_WORDS));
-        for (k = 0; k < count; k++) {
-            const uint64_t *o = outputs + k * OUTPUT_WORDS;
-
-            printf("O\t%llu\t%u\t%llu\t%u\t%u\t%u\t%u\n", clocks, (unsigned)k,
-                   (unsigned long long)o[0], (unsigned)o[1], (unsigned)o[2],
-                   (unsigned)o[3], (unsigned)o[4]);
-        }
+        print_outputs((const struct outputs *)outputs, count);
         clocks++;
     }
     printf("E\t%llu\n", clocks);

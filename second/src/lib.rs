@@ -13,6 +13,7 @@ pub mod lines;
 pub mod listing;
 pub mod packed;
 pub mod ports;
+pub mod preadder;
 pub mod refusal;
 pub mod registers;
 pub mod selection;

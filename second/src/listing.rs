@@ -101,12 +101,11 @@ impl<R: BufRead, W: Write> Play<R, W> {
 
     fn print(&mut self, shown: &[Outputs]) -> io::Result<()> {
         for (slice, outputs) in shown.iter().enumerate() {
-            let [p, pd, pbd, overflow, underflow] = outputs.words();
-            let clock = self.clocks;
-            writeln!(
-                self.printed,
-                "O\t{clock}\t{slice}\t{p}\t{pd}\t{pbd}\t{overflow}\t{underflow}"
-            )?;
+            write!(self.printed, "O\t{}\t{slice}", self.clocks)?;
+            for word in outputs.words() {
+                write!(self.printed, "\t{word}")?;
+            }
+            writeln!(self.printed)?;
         }
         Ok(())
     }

@@ -5,6 +5,7 @@ use crate::attributes::{Attributes, Lanes, Pipeline, Stages};
 use crate::bits::{pattern, wrap};
 use crate::control::{AluMode, CarryInSel, InMode, OpMode, W, X, Y, Z};
 use crate::ports::{Enable, Ports, Reset};
+use crate::preadder::{self, PreAdded};
 use crate::registers::Registers;
 use crate::selection::{Place, Selected, Selection};
 
@@ -33,10 +34,11 @@ pub struct Outputs {
     pub pbd: bool,
     pub overflow: bool,
     pub underflow: bool,
+    pub preaddwrap: bool,
 }
 
 impl Outputs {
-    pub const WORDS: usize = 5;
+    pub const WORDS: usize = 6;
 
     pub fn words(&self) -> [u64; Self::WORDS] {
         [
@@ -45,6 +47,7 @@ impl Outputs {
             self.pbd.into(),
             self.overflow.into(),
             self.underflow.into(),
+            self.preaddwrap.into(),
         ]
     }
 }
@@ -89,14 +92,18 @@ impl Wired<'_> {
         let b_input = if att.b.from_below { self.below.b } else { self.ports.b };
         let a_path = path(&att.a, a_input, reg.a2);
         let b_path = path(&att.b, b_input, reg.b2);
-        let (ad, product) = self.multiply(a_path, b_path);
+        let (d, a) = self.preadder_inputs(a_path);
+        let PreAdded { ad, preaddwrap } = preadder::settle(d, a, self.controls.inmode.subtract);
+        let product = self.multiply(a, ad, b_path);
         let m_path = if att.m_held { reg.m } else { product };
         let unit = self.unit(self.select(a_path, b_path, m_path));
         // Differing bits that the mask leaves in sight.
         let differ = unit.result ^ att.pattern;
         let pd = differ & !att.mask == 0;
         let pbd = !differ & !att.mask == 0;
-        let outputs = self.outputs(unit.result, pd, pbd);
+        // Nothing that settles has a past, so neither flow is flagged here.
+        let settled = Outputs { p: unit.result, pd, pbd, preaddwrap, ..Outputs::default() };
+        let outputs = self.outputs(settled);
         let above = Cascade {
             a: if att.a.early_tap { reg.a1 } else { a_path },
             b: if att.b.early_tap { reg.b1 } else { b_path },
@@ -105,18 +112,23 @@ impl Wired<'_> {
         Shown { a_input, b_input, ad, product, unit, pd, pbd, outputs, above }
     }
 
-    /// The pre-adder's sum and the product, both before their registers.
-    fn multiply(&self, a_path: i64, b_path: i64) -> (i64, i64) {
-        let (att, reg, mode) = (self.attributes, self.registers, self.controls.inmode);
+    /// The pre-adder's d and a, as INMODE lets them through.
+    fn preadder_inputs(&self, a_path: i64) -> (i64, i64) {
+        let (reg, mode) = (self.registers, self.controls.inmode);
         let a_taken = if mode.early_a { reg.a1 } else { a_path };
         let a = if mode.zero_a { 0 } else { wrap(a_taken, 27) };
-        let d_path = if att.d_held { reg.d } else { self.ports.d };
+        let d_path = if self.attributes.d_held { reg.d } else { self.ports.d };
         let d = if mode.use_d { d_path } else { 0 };
-        let ad = wrap(if mode.subtract { d - a } else { d + a }, 27);
+        (d, a)
+    }
+
+    /// The product before its register, from a or AD and from B.
+    fn multiply(&self, a: i64, ad: i64, b_path: i64) -> i64 {
+        let (att, reg) = (self.attributes, self.registers);
         let ad_path = if att.ad_held { reg.ad } else { ad };
         let left = if att.preadds { ad_path } else { a };
-        let right = if mode.early_b { reg.b1 } else { b_path };
-        (ad, left * right)
+        let right = if self.controls.inmode.early_b { reg.b1 } else { b_path };
+        left * right
     }
 
     /// The unit at work on what was selected for it.
@@ -172,10 +184,11 @@ impl Wired<'_> {
         }
     }
 
-    fn outputs(&self, result: i64, pd: bool, pbd: bool) -> Outputs {
+    /// What is shown: what settled, or the registers where P has one.
+    fn outputs(&self, settled: Outputs) -> Outputs {
         let reg = self.registers;
         if !self.attributes.p_held {
-            return Outputs { p: result, pd, pbd, overflow: false, underflow: false };
+            return settled;
         }
         // A swing from one match to the other stays legal (02, Ask 2).
         let unmatched = !reg.pd && !reg.pbd;
@@ -185,6 +198,8 @@ impl Wired<'_> {
             pbd: reg.pbd,
             overflow: reg.pd_past && unmatched,
             underflow: reg.pbd_past && unmatched,
+            // No register holds it.
+            preaddwrap: settled.preaddwrap,
         }
     }
 }

@@ -22,11 +22,15 @@ const ADD_C: u64 = 44;
 const CE_P: u64 = 256;
 const RST_P: u64 = 32;
 
-/// One accepted clock: the registers after it and the outputs it showed.
+/// One accepted clock: the registers after it and the outputs it showed, but for
+/// PREADDWRAP.
 fn clocked(preg: u64, registers: [u64; 18], ports: [u64; 11]) -> ([u64; 18], [u64; 5]) {
     let mut attributes = [0; 22];
     (attributes[10], attributes[20]) = (preg, HIGHEST as u64);
-    one_slice::clocked(&attributes, &registers, &ports)
+    let (after, [shown @ .., preaddwrap]) = one_slice::clocked(&attributes, &registers, &ports);
+    // The pre-adder adds 0 and 0.
+    assert_eq!(preaddwrap, 0);
+    (after, shown)
 }
 
 /// The four marks shown while PD, PBD, PDPAST and PBDPAST are held and C settles.

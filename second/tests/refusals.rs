@@ -1,6 +1,9 @@
 //! A test or more for each number from 0 to 12, 12 through a listing and all others
 //! through the calls; 13 is `why`'s alone and stands with its tests.
 
+mod one_slice;
+
+use one_slice::stretches;
 use second::calls::answer;
 use second::refusal::REFUSED;
 
@@ -23,19 +26,13 @@ fn zeros(count: usize) -> Words {
         attributes: vec![0; ATTRIBUTES * count],
         registers: vec![0; 18 * count],
         ports: vec![0; 11 * count],
-        outputs: vec![9; 5 * count],
+        outputs: vec![9; 6 * count],
     }
-}
-
-fn stretch(words: &[u64]) -> String {
-    let words: Vec<String> = words.iter().map(u64::to_string).collect();
-    format!("{} {}", words.len(), words.join(" "))
 }
 
 impl Words {
     fn lent(&self) -> String {
-        let all = [&self.attributes, &self.registers, &self.ports, &self.outputs];
-        all.map(|words| stretch(words)).join(" ").replace("  ", " ")
+        stretches(&[&self.attributes, &self.registers, &self.ports, &self.outputs])
     }
 
     /// The clock's returned word; a refusal must leave every word alone.
@@ -45,10 +42,7 @@ impl Words {
         let (word, after) = reply.split_once(' ').unwrap();
         let word = word.parse().unwrap();
         if word != 0 {
-            assert_eq!(
-                after.split_whitespace().collect::<Vec<_>>(),
-                lent.split_whitespace().collect::<Vec<_>>()
-            );
+            assert_eq!(after, lent);
         }
         word
     }

@@ -5,81 +5,13 @@
 
 mod one_slice;
 
+use one_slice::{att, port, reg, slice, stretches, Slice};
 use second::calls::answer;
 use second::refusal::REFUSED;
 
 const ONES: u64 = (1 << 48) - 1;
 const CE_P: u64 = 256;
 const RST_P: u64 = 32;
-
-/// Attribute words.
-mod att {
-    pub const AREG: usize = 0;
-    pub const BREG: usize = 1;
-    pub const ACASCREG: usize = 2;
-    pub const BCASCREG: usize = 3;
-    pub const A_INPUT: usize = 4;
-    pub const CREG: usize = 6;
-    pub const MREG: usize = 9;
-    pub const PREG: usize = 10;
-    pub const OPMODEREG: usize = 11;
-    pub const ALUMODEREG: usize = 12;
-    pub const INMODEREG: usize = 13;
-    pub const CARRYINREG: usize = 14;
-    pub const CARRYINSELREG: usize = 15;
-    pub const USE_MULT: usize = 16;
-    pub const AMULTSEL: usize = 17;
-    pub const RND: usize = 18;
-    pub const USE_SIMD: usize = 21;
-}
-
-/// Register words.
-mod reg {
-    pub const A2: usize = 1;
-    pub const B2: usize = 3;
-    pub const C: usize = 4;
-    pub const M: usize = 7;
-    pub const P: usize = 8;
-    pub const OPMODE: usize = 9;
-    pub const ALUMODE: usize = 10;
-    pub const INMODE: usize = 11;
-    pub const CARRYINSEL: usize = 12;
-    pub const CARRYIN: usize = 13;
-}
-
-/// Port words.
-mod port {
-    pub const A: usize = 0;
-    pub const B: usize = 1;
-    pub const C: usize = 2;
-    pub const D: usize = 3;
-    pub const OPMODE: usize = 4;
-    pub const ALUMODE: usize = 5;
-    pub const INMODE: usize = 6;
-    pub const CARRYINSEL: usize = 7;
-    pub const CARRYIN: usize = 8;
-    pub const CE: usize = 9;
-    pub const RST: usize = 10;
-}
-
-/// The words of one slice.
-#[derive(Clone, Copy)]
-struct Slice {
-    attributes: [u64; 22],
-    registers: [u64; 18],
-    ports: [u64; 11],
-}
-
-type Set<'a> = &'a [(usize, u64)];
-
-/// A slice of zeros but for the words set.
-fn slice(attributes: Set, registers: Set, ports: Set) -> Slice {
-    let mut slice = Slice { attributes: [0; 22], registers: [0; 18], ports: [0; 11] };
-    attributes.iter().for_each(|&(word, value)| slice.attributes[word] = value);
-    registers.iter().for_each(|&(word, value)| slice.registers[word] = value);
-    ports.iter().for_each(|&(word, value)| slice.ports[word] = value);
-    slice
-}
 
 /// All that a question is lent, to be spoiled word by word.
 #[derive(Clone)]
@@ -108,16 +40,11 @@ fn zeros(count: usize) -> Question {
     question(&vec![slice(&[], &[], &[]); count], 0)
 }
 
-fn stretch(words: &[u64]) -> String {
-    words.iter().fold(words.len().to_string(), |text, word| format!("{text} {word}"))
-}
-
 impl Question {
     /// The returned word and `why`; all else must come back as it was lent.
     fn asked(&self) -> (u64, Vec<u64>) {
-        let column = [&self.attributes, &self.registers, &self.ports];
-        let column = column.map(|words| stretch(words)).join(" ");
-        let (count, slice, why) = (self.count, self.slice, stretch(&self.why));
+        let column = stretches(&[&self.attributes, &self.registers, &self.ports]);
+        let (count, slice, why) = (self.count, self.slice, stretches(&[&self.why]));
         let reply = answer(&format!("why {count} {column} {slice} {why}")).unwrap();
         let (word, after) = reply.split_once(' ').unwrap();
         let why = after.strip_prefix(&column).unwrap().split_whitespace();
@@ -143,9 +70,9 @@ fn explained(column: &[Slice], slice: u64) -> [u64; 13] {
 /// The answer for a slice alone; its result must be that of the clock.
 fn alone(slice: Slice) -> [u64; 13] {
     let why = explained(&[slice], 0);
-    let mut ports = slice.ports;
-    (ports[port::CE], ports[port::RST]) = (CE_P, 0);
-    let (after, shown) = one_slice::clocked(&slice.attributes, &slice.registers, &ports);
+    let mut enabled = slice;
+    (enabled.ports[port::CE], enabled.ports[port::RST]) = (CE_P, 0);
+    let (after, shown) = enabled.clocked();
     assert_eq!(after[reg::P], why[12]);
     if slice.attributes[att::PREG] == 0 {
         assert_eq!(shown[0], why[12]);
@@ -487,7 +414,7 @@ fn controls_are_those_in_effect() {
 fn the_result_is_the_p_shown_without_its_register() {
     let words = slice(&[], &[(reg::P, 5)], &[(port::C, 7), (port::OPMODE, 48)]);
     assert_eq!(explained(&[words], 0), [0, 0, 0, 7, 0, 0, 0, 0, 5, 10, 1, 0, 7]);
-    let (_, shown) = one_slice::clocked(&words.attributes, &words.registers, &words.ports);
+    let (_, shown) = words.clocked();
     assert_eq!(shown[0], 7);
 }
 
@@ -498,7 +425,7 @@ fn the_result_is_what_p_would_load() {
         let ports = [(port::C, 7), (port::OPMODE, 44), (port::CE, enable), (port::RST, reset)];
         let words = slice(&[(att::PREG, 1)], &[(reg::P, 5)], &ports);
         assert_eq!(explained(&[words], 0), [0, 0, 7, 5, 0, 0, 0, 5, 2, 10, 1, 0, 12]);
-        let (after, shown) = one_slice::clocked(&words.attributes, &words.registers, &words.ports);
+        let (after, shown) = words.clocked();
         assert_eq!((after[reg::P], shown[0]), (loaded, 5));
     }
 }

@@ -8,6 +8,7 @@ use crate::oracle::Controls;
 use crate::random::Random;
 use crate::why_calls;
 use crate::words::*;
+use crate::wrap_calls;
 
 /// A clock call's words; the lengths need not fit the count.
 #[derive(Clone)]
@@ -25,6 +26,7 @@ pub fn write(out: &mut impl Write, random: &mut Random, count: u64) -> io::Resul
     sweep_counts_and_lengths(out, random)?;
     sweep_faults(out, random)?;
     sweep_lanes(out, random)?;
+    wrap_calls::sweep(out, random)?;
     sweep_packed(out, random)?;
     why_calls::sweep(out, random)?;
     for _ in 0..count {
@@ -49,7 +51,7 @@ pub fn stretch<T: ToString>(words: &[T]) -> String {
 }
 
 impl Clock {
-    fn write(&self, out: &mut impl Write) -> io::Result<()> {
+    pub fn write(&self, out: &mut impl Write) -> io::Result<()> {
         let Clock { count, attributes, registers, ports, outputs } = self;
         let lent = [attributes, registers, ports, outputs].map(|words| stretch(words));
         writeln!(out, "clock {count} {}", lent.join(" "))
@@ -67,16 +69,37 @@ impl Clock {
             attributes: attributes.concat(),
             registers: Vec::new(),
             ports: Vec::new(),
-            outputs: (0..attributes.len() * 5).map(|_| random.word()).collect(),
+            outputs: (0..attributes.len() * OUTPUT_WORDS).map(|_| random.word()).collect(),
         };
         for at in attributes {
             let menu = Menu::of(at);
-            let registers = registers(random, at, &menu);
+            let mut registers = registers(random, at, &menu);
             let held = Controls::of_registers(&registers);
-            clock.ports.extend(draw::ports(random, at, &menu, held));
+            let mut ports = draw::ports(random, at, &menu, held);
+            if random.percent(20) {
+                to_the_ends(random, &mut registers, &mut ports);
+            }
+            clock.ports.extend(ports);
             clock.registers.extend(registers);
         }
         clock
+    }
+}
+
+/// Takes a pre-adder to its ends by most of the words that it might read, but not by all of them,
+/// so that it matters which it reads.
+fn to_the_ends(random: &mut Random, registers: &mut Registers, ports: &mut Ports) {
+    let [a, d] = draw::a_and_d(random);
+    let [a1, a2, ..] = registers;
+    for word in [&mut ports[po::A], a1, a2] {
+        if random.percent(75) {
+            *word = a;
+        }
+    }
+    for word in [&mut ports[po::D], &mut registers[rg::D]] {
+        if random.percent(75) {
+            *word = d;
+        }
     }
 }
 
@@ -141,16 +164,16 @@ fn sweep_counts_and_lengths(out: &mut impl Write, random: &mut Random) -> io::Re
         writeln!(out, "clear {count} {}", stretch(&[7; 18]))?;
     }
     for height in [25, 24] {
-        let lent = [height * 22, height * 18, height * 11, height * 5]
-            .map(|words| stretch(&vec![0; words]));
+        let lent = [22, 18, 11, OUTPUT_WORDS].map(|words| stretch(&vec![0; height * words]));
         writeln!(out, "clock {height} {}", lent.join(" "))?;
         writeln!(out, "clear {height} {}", stretch(&vec![1; height * 18]))?;
     }
     for height in 1..=24 {
         for which in 0..4 {
             let legal = Clock::legal(random, height);
-            let right = [22, 18, 11, 5][which] * height as usize;
-            // The attributes' second to last is the length without USE_SIMD.
+            let right = [22, 18, 11, OUTPUT_WORDS][which] * height as usize;
+            // The second to last is the attributes' length without USE_SIMD, and the outputs'
+            // without PREADDWRAP.
             for length in [0, right - 1, right + 1, right - height as usize, right * 2] {
                 let mut clock = legal.clone();
                 let lent = [

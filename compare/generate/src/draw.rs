@@ -3,6 +3,7 @@
 use crate::oracle::Controls;
 use crate::random::Random;
 use crate::words::*;
+use crate::wrap_oracle::{beside, pattern, signed};
 
 /// A word of a width: at an edge, small, or anything.
 pub fn word(random: &mut Random, width: u32) -> u64 {
@@ -12,6 +13,18 @@ pub fn word(random: &mut Random, width: u32) -> u64 {
         5 => ones(width) - (random.below(256) & ones(width)),
         _ => random.word() & ones(width),
     }
+}
+
+/// A word of A whose low 27 bits are a number; the pre-adder must not read those above.
+pub fn a_word(random: &mut Random, a: i64) -> u64 {
+    pattern(a) | random.below(8) << 27
+}
+
+/// Words of A and D whose sum or difference is at an end of the pre-adder or past it.
+pub fn a_and_d(random: &mut Random) -> [u64; 2] {
+    let a = signed(word(random, 27), 27);
+    let (d, _) = random.pick(&beside(a));
+    [a_word(random, a), pattern(d)]
 }
 
 /// The depth of a pipeline and of its cascade.
@@ -88,6 +101,9 @@ fn candidate(random: &mut Random, menu: &Menu) -> Ports {
     let mut po = [0; 11];
     for (port, width) in po.iter_mut().zip(PORT_WIDTHS) {
         *port = word(random, width);
+    }
+    if random.percent(20) {
+        [po[po::A], po[po::D]] = a_and_d(random);
     }
     let (logic, product) = (random.percent(40), random.percent(40));
     po[po::OPMODE] = random.pick(match (logic, product) {

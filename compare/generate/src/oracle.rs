@@ -42,14 +42,7 @@ impl Controls {
 
     /// What stands in the registers after the edge.
     pub fn after(self, po: &Ports) -> Controls {
-        let load = |held: u64, port: usize, ce: u64, rst: u64| match (
-            po[po::RST] & rst,
-            po[po::CE] & ce,
-        ) {
-            (0, 0) => held,
-            (0, _) => po[port],
-            _ => 0,
-        };
+        let load = |held: u64, port: usize, ce: u64, rst: u64| loaded(po, held, po[port], ce, rst);
         Controls {
             opmode: load(self.opmode, po::OPMODE, CE_CTRL, RST_CTRL),
             alumode: load(self.alumode, po::ALUMODE, CE_ALUMODE, RST_ALUMODE),
@@ -124,6 +117,15 @@ impl Controls {
             5 | 7 => at[at::PREG] == 0,
             _ => true,
         }
+    }
+}
+
+/// What a register holds after the edge, by the bits that enable and reset it.
+pub fn loaded(po: &Ports, held: u64, input: u64, ce: u64, rst: u64) -> u64 {
+    match (po[po::RST] & rst, po[po::CE] & ce) {
+        (0, 0) => held,
+        (0, _) => input,
+        _ => 0,
     }
 }
 

@@ -54,7 +54,7 @@ impl Read {
     fn right_lengths(&self, kind: usize) -> Vec<i128> {
         let first = self.plain[0];
         match kind {
-            1 => [22, 18, 11, 5].map(|words| words * first).to_vec(),
+            1 => [22, 18, 11, OUTPUT_WORDS as i128].map(|words| words * first).to_vec(),
             2 => vec![18 * first],
             WHY => vec![22 * first, 18 * first, 11 * first, WHY_WORDS as i128],
             _ => {
@@ -98,6 +98,7 @@ impl Slices {
     }
 }
 
-fn records<const COUNT: usize>(words: &[i128]) -> Vec<[u64; COUNT]> {
+/// So many words each, one record after the other.
+pub fn records<const COUNT: usize>(words: &[i128]) -> Vec<[u64; COUNT]> {
     words.chunks(COUNT).map(|record| std::array::from_fn(|i| record[i] as u64)).collect()
 }

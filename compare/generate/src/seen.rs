@@ -3,6 +3,7 @@
 use crate::oracle::Controls;
 use crate::seen_flags::SeenSums;
 use crate::seen_lanes::SeenLanes;
+use crate::seen_wrap::SeenWraps;
 use crate::table::Table;
 use crate::words::*;
 
@@ -13,6 +14,7 @@ pub struct Seen {
     line: Line,
     lanes: SeenLanes,
     sums: SeenSums,
+    wraps: SeenWraps,
     flag: [usize; 2],
     shown: usize,
 }
@@ -128,6 +130,7 @@ impl Seen {
         let line = Line::new(table);
         let lanes = SeenLanes::new(table);
         let sums = SeenSums::new(table);
+        let wraps = SeenWraps::new(table);
         let names = ["flag with PREG 0", "flag with PREG 1"];
         let flags = [&FLAGS[..2], &FLAGS[..]];
         Seen {
@@ -136,6 +139,7 @@ impl Seen {
             line,
             lanes,
             sums,
+            wraps,
             flag: std::array::from_fn(|preg| table.group(names[preg], flags[preg])),
             shown: table.group("shown P", EDGE_NAMES),
         }
@@ -243,24 +247,26 @@ impl Seen {
         }
     }
 
-    /// Counts what the accepted clocks of a column showed, slice by slice.
+    /// Counts what the accepted clocks of a column showed, slice by slice; says where a mark of the
+    /// pre-adder is not the oracle's.
     pub fn shown(
         &self,
         table: &mut Table,
         attributes: &[Attributes],
         ports: &[Ports],
-        shown: &[[u64; 5]],
-    ) {
+        shown: &[Outputs],
+    ) -> Result<(), String> {
         for (at, shown) in attributes.iter().cycle().zip(shown) {
             self.outputs(table, at, shown);
         }
         self.sums.column(table, attributes, ports, shown);
+        self.wraps.column(table, attributes, ports, shown)
     }
 
-    /// Counts the five numbers one slice showed.
-    fn outputs(&self, table: &mut Table, at: &Attributes, shown: &[u64; 5]) {
+    /// Counts P and the four flags that one slice showed.
+    fn outputs(&self, table: &mut Table, at: &Attributes, shown: &Outputs) {
         edge(table, self.shown, shown[0], 48);
-        self.lanes.flags(table, at, &shown[1..]);
+        self.lanes.flags(table, at, &shown[1..PREADDWRAP]);
         for item in 0..4 {
             if shown[item + 1] == 1 {
                 table.met(self.flag[at[at::PREG] as usize], item);

@@ -47,7 +47,7 @@ impl SeenSums {
         table: &mut Table,
         attributes: &[Attributes],
         ports: &[Ports],
-        shown: &[[u64; 5]],
+        shown: &[Outputs],
     ) {
         for (slice, at) in attributes.iter().enumerate() {
             if let Some(group) = self.group(at) {
@@ -72,7 +72,7 @@ impl SeenSums {
 }
 
 /// The move that three clocks in a row tell of a slice.
-fn listed_move(at: &Attributes, ports: [&Ports; 3], shown: [&[u64; 5]; 3]) -> Option<usize> {
+fn listed_move(at: &Attributes, ports: [&Ports; 3], shown: [&Outputs; 3]) -> Option<usize> {
     let matches = |clock: usize| [shown[clock][1], shown[clock][2]];
     let loads =
         |clock: usize| ports[clock][po::CE] & CE_P != 0 && ports[clock][po::RST] & RST_P == 0;

@@ -28,6 +28,7 @@ pub struct Tally {
     clocks: u64,
     slice_clocks: u64,
     unexpected: u64,
+    wrong_marks: u64,
 }
 
 /// Refusals that a slice is to blame for.
@@ -44,7 +45,8 @@ pub fn tally(directory: &Path, answers: &Path) -> io::Result<bool> {
     println!("clocks: {}", tally.clocks);
     println!("slice-clocks: {}", tally.slice_clocks);
     println!("endings other than the oracle's: {}", tally.unexpected);
-    Ok(unmet == 0 && tally.unexpected == 0)
+    println!("listings with another PREADDWRAP than the oracle's: {}", tally.wrong_marks);
+    Ok(unmet == 0 && tally.unexpected == 0 && tally.wrong_marks == 0)
 }
 
 /// The name, the kind, the aim and the ending that a line of expectations gives.
@@ -85,6 +87,7 @@ impl Tally {
             clocks: 0,
             slice_clocks: 0,
             unexpected: 0,
+            wrong_marks: 0,
         }
     }
 
@@ -108,9 +111,9 @@ impl Tally {
         *self.aim_items.entry(aim.to_string()).or_insert_with(|| table.item(aims, aim))
     }
 
-    /// Rises with each item that is met first, and with each ending that is not the oracle's.
+    /// Rises with each item that is met first, and with each listing that the oracle disagrees with.
     pub fn news(&self) -> u64 {
-        self.table.items_met() as u64 + self.unexpected
+        self.table.items_met() as u64 + self.unexpected + self.wrong_marks
     }
 
     fn listing(
@@ -144,7 +147,7 @@ impl Tally {
         self.slice_clocks += shown;
         let text = String::from_utf8_lossy(listing);
         if kind == "column" && clocks > 0 {
-            self.column(&text, answer, clocks as usize);
+            self.column(name, &text, answer, clocks as usize);
         }
         if let ("column", Some(slice)) = (kind, last.strip_prefix("R 3 0 ")) {
             self.attribute(&settings(&text), slice.parse().unwrap());
@@ -197,7 +200,7 @@ impl Tally {
     }
 
     /// Counts what the accepted clocks of a well-formed listing met.
-    fn column(&mut self, text: &str, answer: &str, clocks: usize) {
+    fn column(&mut self, name: &str, text: &str, answer: &str, clocks: usize) {
         let attributes = settings(text);
         let ports: Vec<Ports> = words(text, 'P');
         self.lengths(text);
@@ -207,9 +210,12 @@ impl Tally {
             self.seen.clock(&mut self.table, &attributes, &held, ports);
             held.iter_mut().zip(ports).for_each(|(controls, po)| *controls = controls.after(po));
         }
-        let shown = words::<7>(answer, 'O').into_iter().map(|[_, _, outputs @ ..]| outputs);
-        let shown: Vec<[u64; 5]> = shown.collect();
-        self.seen.shown(&mut self.table, &attributes, &ports, &shown);
+        let shown: Vec<[u64; 2 + OUTPUT_WORDS]> = words(answer, 'O');
+        let shown: Vec<Outputs> = shown.into_iter().map(|[_, _, outputs @ ..]| outputs).collect();
+        if let Err(why) = self.seen.shown(&mut self.table, &attributes, &ports, &shown) {
+            println!("listing {name}: {why}");
+            self.wrong_marks += 1;
+        }
     }
 }
 

@@ -5,12 +5,14 @@ use std::io::{self, BufRead, BufReader};
 use std::path::Path;
 
 use crate::oracle::{attributes_refused, clock_refused, too_wide, Controls};
-use crate::read_calls::{Read, Slices, KINDS, WHY};
+use crate::read_calls::{records, Read, Slices, KINDS, WHY};
 use crate::seen_flags::SeenHeld;
 use crate::seen_lanes::{cause, SeenLanes, CAUSES};
 use crate::seen_why::SeenWhy;
+use crate::seen_wrap::SeenWrap;
 use crate::table::Table;
 use crate::words::*;
+use crate::wrap_oracle::{Held, PreAdder};
 
 const REFUSED: i128 = 1 << 48;
 
@@ -46,6 +48,8 @@ struct Groups {
     simd: usize,
     lanes: SeenLanes,
     held: SeenHeld,
+    wrap: SeenWrap,
+    without_mark: usize,
     causes: usize,
     why: SeenWhy,
 }
@@ -73,6 +77,8 @@ impl Groups {
             simd: table.group("clock accepted, by USE_SIMD", SIMD_NAMES),
             lanes: SeenLanes::new(table),
             held: SeenHeld::new(table),
+            wrap: SeenWrap::new(table),
+            without_mark: table.group("clock wrong length alone, outputs of", ["5 a slice"]),
             causes: table.group("clock refusal 3 by", CAUSES),
             why: SeenWhy::new(table),
         }
@@ -114,14 +120,7 @@ fn one(table: &mut Table, groups: &Groups, call: &str, answer: &str) -> Result<(
     if expected.unwrap_or(returned) != returned || (expected.is_none() && returned >= REFUSED) {
         return Err(format!("{name} returned {returned}, the oracle says {expected:?}"));
     }
-    let kept = match (kind, number) {
-        (WHY, _) => 3,
-        (_, 1..) => call.stretches.len(),
-        (1, _) => 1,
-        (2, _) => 0,
-        _ => 3.min(call.stretches.len()),
-    };
-    if call.stretches[..kept] != answer.stretches[..kept] {
+    if !lent_words_right(kind, number, &call, &answer) {
         return Err(format!("{name} wrote where it must not"));
     }
     if kind == WHY {
@@ -130,12 +129,25 @@ fn one(table: &mut Table, groups: &Groups, call: &str, answer: &str) -> Result<(
     let item = table.item(groups.returned[kind], &number.to_string());
     table.met(groups.returned[kind], item);
     match number {
-        0 => accepted(table, groups, kind, &call, &answer),
-        2 => lengths(table, groups.lengths[kind], kind, &call),
+        0 => accepted(table, groups, kind, &call, &answer)?,
+        2 => wrong_lengths(table, groups, kind, &call),
         3..=9 if kind == 1 => refused(table, groups, &call, number, place as usize),
         _ => {}
     }
     Ok(())
+}
+
+/// Whether an answer has stretches as long as the call's, and those unchanged that must be.
+fn lent_words_right(kind: usize, number: i128, call: &Read, answer: &Read) -> bool {
+    let kept = match (kind, number) {
+        (WHY, _) => 3,
+        (_, 1..) => call.stretches.len(),
+        (1, _) => 1,
+        (2, _) => 0,
+        _ => 3.min(call.stretches.len()),
+    };
+    let lengths = |read: &Read| read.stretches.iter().map(Vec::len).collect::<Vec<_>>();
+    call.stretches[..kept] == answer.stretches[..kept] && lengths(call) == lengths(answer)
 }
 
 fn refused(table: &mut Table, groups: &Groups, call: &Read, number: i128, slice: usize) {
@@ -146,21 +158,32 @@ fn refused(table: &mut Table, groups: &Groups, call: &Read, number: i128, slice:
     }
 }
 
-/// Counts the lanes that an accepted clock met, and the flags it held and showed.
-fn slices(table: &mut Table, groups: &Groups, call: &Read, answer: &Read) {
+/// Counts the lanes that an accepted clock met, the flags it held and showed, and its marks; says
+/// where a mark is not the oracle's.
+fn slices(table: &mut Table, groups: &Groups, call: &Read, answer: &Read) -> Result<(), String> {
     let Slices { attributes, registers, ports } = Slices::of(call);
+    let shown: Vec<Outputs> = records(&answer.stretches[3]);
     for (k, at) in attributes.iter().enumerate() {
         let controls = Controls::of_registers(&registers[k]).in_effect(at, &ports[k]);
         table.met(groups.simd, at[at::USE_SIMD] as usize);
         groups.lanes.unit(table, at, controls, &ports[k], Some(&registers[k]));
-        let flags = &answer.stretches[3][k * 5 + 1..][..4];
-        let flags: Vec<u64> = flags.iter().map(|flag| *flag as u64).collect();
+        let [_, flags @ .., _] = shown[k];
         groups.lanes.flags(table, at, &flags);
         groups.held.slice(table, at, &registers[k], [flags[2], flags[3]]);
     }
+    let held: Vec<Held> = registers.iter().map(Held::of_registers).collect();
+    let pre_adders = PreAdder::all(&attributes, &held, &ports);
+    let marks: Vec<u64> = shown.iter().map(|outputs| outputs[PREADDWRAP]).collect();
+    groups.wrap.clock(table, &attributes, &pre_adders, &ports, &marks)
 }
 
-fn accepted(table: &mut Table, groups: &Groups, kind: usize, call: &Read, answer: &Read) {
+fn accepted(
+    table: &mut Table,
+    groups: &Groups,
+    kind: usize,
+    call: &Read,
+    answer: &Read,
+) -> Result<(), String> {
     match kind {
         0 => {
             let item = table.item(groups.adder_modes, &call.plain[5].to_string());
@@ -168,7 +191,7 @@ fn accepted(table: &mut Table, groups: &Groups, kind: usize, call: &Read, answer
         }
         1 => {
             table.met(groups.heights, call.plain[0] as usize - 1);
-            slices(table, groups, call, answer);
+            slices(table, groups, call, answer)?;
         }
         3 | 4 => {
             table.met(groups.terms[kind - 3], call.plain[0] as usize - 1);
@@ -177,11 +200,15 @@ fn accepted(table: &mut Table, groups: &Groups, kind: usize, call: &Read, answer
         }
         _ => {}
     }
+    Ok(())
 }
 
-fn lengths(table: &mut Table, group: usize, kind: usize, call: &Read) {
+fn wrong_lengths(table: &mut Table, groups: &Groups, kind: usize, call: &Read) {
     if let [which] = call.lengths_wrong(kind)[..] {
-        table.met(group, which);
+        table.met(groups.lengths[kind], which);
+        // The outputs as they were before they had the mark.
+        let words = call.stretches[which].len() as i128;
+        table.met_if(groups.without_mark, 0, (kind, which, words) == (1, 3, 5 * call.plain[0]));
     }
 }
 

@@ -5,6 +5,10 @@ use crate::random::Random;
 pub type Attributes = [u64; 22];
 pub type Registers = [u64; 18];
 pub type Ports = [u64; 11];
+pub type Outputs = [u64; OUTPUT_WORDS];
+pub const OUTPUT_WORDS: usize = 6;
+/// The place of the pre-adder's mark, the last of the outputs.
+pub const PREADDWRAP: usize = 5;
 
 /// Places of the attributes.
 pub mod at {
@@ -49,9 +53,11 @@ pub mod po {
 
 /// Places of the registers that hold operands, a carry, controls and flags.
 pub mod rg {
+    pub const A1: usize = 0;
     pub const A2: usize = 1;
     pub const B2: usize = 3;
     pub const C: usize = 4;
+    pub const D: usize = 5;
     pub const M: usize = 7;
     pub const P: usize = 8;
     pub const OPMODE: usize = 9;
@@ -109,12 +115,26 @@ pub const REGISTER_WIDTHS: [u32; 18] =
 /// The words of an answer to why.
 pub const WHY_WORDS: usize = 13;
 
-/// CE and RST bits that bear on P and on the control registers.
+/// The INMODE bits that bear on the pre-adder.
+pub mod inmode {
+    pub const TAKES_A1: u64 = 1;
+    pub const CLEARS_A: u64 = 1 << 1;
+    pub const TAKES_D: u64 = 1 << 2;
+    pub const SUBTRACTS: u64 = 1 << 3;
+}
+
+/// CE and RST bits that bear on the pre-adder, on P and on the control registers.
+pub const CE_A1: u64 = 1;
+pub const CE_A2: u64 = 1 << 1;
+pub const CE_D: u64 = 1 << 5;
+pub const CE_AD: u64 = 1 << 6;
 pub const CE_P: u64 = 1 << 8;
 pub const CE_CTRL: u64 = 1 << 9;
 pub const CE_ALUMODE: u64 = 1 << 10;
 pub const CE_INMODE: u64 = 1 << 11;
 pub const CE_ALL: u64 = 8191;
+pub const RST_A: u64 = 1;
+pub const RST_D: u64 = 1 << 3;
 pub const RST_P: u64 = 1 << 5;
 pub const RST_CTRL: u64 = 1 << 6;
 pub const RST_ALUMODE: u64 = 1 << 7;

@@ -3,10 +3,10 @@ use mathlib.Core.Path.{_≡_, refl}
 use mathlib.Core.List.{List, [], _∷_, _++_}
 use Prim.Native.Nat.{ℕ, _-_, _*_, _^_}
 use lib.ListN.{replicate, set}
-use Rattle.records.specs.Records.{attributeWords, exceeds}
-use Rattle.unit.specs.Unit.{arithmetic, lanes, logicRows, unitResult, splitResult, preAdder, product, load}
+use Rattle.records.specs.Records.{attributeWords, outputWords, exceeds}
+use Rattle.unit.specs.Unit.{arithmetic, lanes, logicRows, unitResult, splitResult, wrappedSum, preAdder, product, load}
 use Rattle.unit.specs.Detector.{unmasked, detected}
-use Rattle.slice.specs.Slice.{controlsOf, selectsOf, pathsOf, aSide, dSide, adOf, leftOf, rightOf, productOf, operandsOf, sliceOperands, resultOf, settledOf, sliceSettled, outputsOfSettled, cascadeOf, edge, nextOf, sliceOutputs, sliceCascade, sliceNext}
+use Rattle.slice.specs.Slice.{controlsOf, selectsOf, pathsOf, aSide, dSide, preAddedOf, leftOf, rightOf, productOf, operandsOf, sliceOperands, resultOf, settledOf, sliceSettled, outputsOfSettled, cascadeOf, edge, nextOf, sliceOutputs, sliceCascade, sliceNext}
 use Rattle.legal.specs.Legal.{offList, badInmode, badOpmode, badAlumode, badCarryinsel, breaks}
 use Rattle.reason.specs.Reason.{placesOf, ruleOf, reasonOf, reasonWords}
 use Rattle.column.specs.declared.Answer.{Answer}
@@ -33,10 +33,10 @@ abbrev told : Answer → List ℕ
 told a = numberOf a ∷ placeOf a ∷ []
 
 abbrev one : (at rs ps : List ℕ) → List ℕ
-one at rs ps = told (clockAnswer 1 at rs ps (replicate 5 0))
+one at rs ps = told (clockAnswer 1 at rs ps (replicate outputWords 0))
 
 abbrev two : (at rs ps : List ℕ) → List ℕ
-two at rs ps = told (clockAnswer 2 at rs ps (replicate 10 0))
+two at rs ps = told (clockAnswer 2 at rs ps (replicate (outputWords * 2) 0))
 
 -- the answer of `why` of slice k by number and place, and its words
 abbrev why : (count : ℕ) → (at rs ps : List ℕ) → (k : ℕ) → List ℕ
@@ -54,13 +54,17 @@ pub record Neighbours : Type 0 where
   pub before-the-edge : columnNext 2 (preg ++ preg) (p-holds 40 ++ p-holds 2) (c-and-opmode 100 12 ++ c-and-opmode 0 18)
       ≡ p-holds 100 ++ p-holds 42
   pub shown-before : columnShown 2 (preg ++ preg) (p-holds 40 ++ p-holds 2) (c-and-opmode 100 12 ++ c-and-opmode 0 18)
-      ≡ 40 ∷ 0 ∷ 0 ∷ 0 ∷ 0 ∷ 2 ∷ 0 ∷ 0 ∷ 0 ∷ 0 ∷ []
+      ≡ 40 ∷ 0 ∷ 0 ∷ 0 ∷ 0 ∷ 0 ∷ 2 ∷ 0 ∷ 0 ∷ 0 ∷ 0 ∷ 0 ∷ []
 
 pub record Refused : Type 0 where
   pub none : one (plain 1) (replicate 18 0) (replicate 11 0) ≡ 0 ∷ 0 ∷ []
   pub no-slices : told (clockAnswer 0 [] [] [] []) ≡ 1 ∷ 0 ∷ []
   pub too-many : told (clockAnswer 25 [] [] [] []) ≡ 1 ∷ 0 ∷ []
   pub a-word-short : one (replicate (attributeWords - 1) 0) (replicate 18 0) (replicate 11 0) ≡ 2 ∷ 0 ∷ []
+  -- six outputs a slice (02, Ask 4), not five and not seven
+  pub outputs : (told (clockAnswer 1 (plain 1) (replicate 18 0) (replicate 11 0) (replicate 5 0)) ≡ 2 ∷ 0 ∷ [])
+      × (told (clockAnswer 1 (plain 1) (replicate 18 0) (replicate 11 0) (replicate 6 0)) ≡ 0 ∷ 0 ∷ [])
+      × (told (clockAnswer 1 (plain 1) (replicate 18 0) (replicate 11 0) (replicate 7 0)) ≡ 2 ∷ 0 ∷ [])
   -- slice 1 has AREG 1 with ACASCREG 0
   pub attribute : two (plain 1 ++ set (plain 1) 0 1) (replicate 36 0) (replicate 22 0) ≡ 3 ∷ 1 ∷ []
   -- USE_SIMD 2 is accepted; 3 in slice 1, or 1 with USE_MULT, is refused before slice 0's register A1
@@ -103,7 +107,7 @@ pub record Whys : Type 0 where
   pub faulty-above : why 2 (plain 1 ++ set (plain 1) 0 3) (replicate 36 0) (replicate 22 0) 0 ≡ 3 ∷ 1 ∷ replicate 13 0
 
 pub neighbours : Neighbours
-unfolding columnNext columnShown nextAt shownAt cascadeInto sliceNext nextOf edge load sliceOutputs sliceCascade outputsOfSettled cascadeOf sliceSettled settledOf resultOf sliceOperands operandsOf selectsOf productOf leftOf rightOf adOf aSide dSide controlsOf pathsOf splitResult unitResult lanes arithmetic logicRows preAdder product detected unmasked
+unfolding columnNext columnShown nextAt shownAt cascadeInto sliceNext nextOf edge load sliceOutputs sliceCascade outputsOfSettled cascadeOf sliceSettled settledOf resultOf sliceOperands operandsOf selectsOf productOf leftOf rightOf preAddedOf aSide dSide controlsOf pathsOf splitResult unitResult lanes arithmetic logicRows wrappedSum preAdder product detected unmasked
 neighbours = record { before-the-edge = refl; shown-before = refl }
 
 pub refused : Refused
@@ -114,6 +118,7 @@ refused =
       no-slices = refl;
       too-many = refl;
       a-word-short = refl;
+      outputs = (refl, refl, refl);
       attribute = refl;
       simd = (refl, refl, refl);
       register-first = refl;
@@ -128,7 +133,7 @@ refused =
     }
 
 pub whys : Whys
-unfolding whyOf whyAnswer inputsFit settings rules fails broken breaks exceeds offList badInmode badOpmode badAlumode badCarryinsel reasonAt reasonOf reasonWords placesOf ruleOf cascadeInto sliceOutputs sliceCascade outputsOfSettled cascadeOf sliceSettled settledOf resultOf sliceOperands operandsOf selectsOf productOf leftOf rightOf adOf aSide dSide controlsOf pathsOf splitResult unitResult lanes arithmetic logicRows preAdder product detected unmasked
+unfolding whyOf whyAnswer inputsFit settings rules fails broken breaks exceeds offList badInmode badOpmode badAlumode badCarryinsel reasonAt reasonOf reasonWords placesOf ruleOf cascadeInto sliceOutputs sliceCascade outputsOfSettled cascadeOf sliceSettled settledOf resultOf sliceOperands operandsOf selectsOf productOf leftOf rightOf preAddedOf aSide dSide controlsOf pathsOf splitResult unitResult lanes arithmetic logicRows wrappedSum preAdder product detected unmasked
 whys =
     record {
       lower = refl;

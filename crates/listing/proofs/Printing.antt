@@ -36,7 +36,7 @@ word-by-word (w ∷ ws) = ap (λ (l : List ℕ). w ∷ l) (from-tail w ws 0 (len
 all-words : (n : ℕ) (ws : List ℕ) → length ws ≡ n → from ws 0 n ≡ ws
 all-words n ws h = ap (from ws 0) (sym h) ∙ word-by-word ws
 
--- no `O` line is longer than its seven numbers allow
+-- no `O` line is longer than its numbers allow
 output-line-length : (clock : ℕ) (os : List ℕ) (k : ℕ) → length (outputLine clock os k) ≤ outputRoom
 unfolding outputLine
 output-line-length clock os k =
@@ -49,8 +49,12 @@ stacked-most f m each (suc n) = rw (length-append, mul-suc) (omega (arith, stack
 clock-length : (clock : ℕ) (os : List ℕ) (n : ℕ) → length (stacked (outputLine clock os) n) ≤ outputRoom * n
 clock-length clock os n = stacked-most (outputLine clock os) outputRoom (output-line-length clock os) n
 
+-- a clock's room is enough for the lines of 24 slices, with so many outputs each
+pub clock-fits : (outputs : ℕ) → outputs ≤ 13 → fieldRoom * (outputs + 3) * mostSlices ≤ clockRoom
+clock-fits outputs h = omega arith
+
 lines-fit : (f : ℕ → List ℕ) → ((k : ℕ) → length (f k) ≤ outputRoom) → (n : ℕ) → n ≤ mostSlices → length (stacked f n) ≤ clockRoom
-lines-fit f each n h = omega (arith, stacked-most f outputRoom each n)
+lines-fit f each n h = omega (arith, stacked-most f outputRoom each n, clock-fits outputWords (omega arith))
 
 -- room for the lines of a clock, in whatever order, is room for every event
 pub event-length : (e : Event) (count : ℕ) (os : List ℕ) → count ≤ mostSlices → length (bytesOf e count os) ≤ clockRoom

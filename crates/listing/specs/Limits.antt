@@ -15,6 +15,6 @@ countBound = 2 ^ 64 - 1
 abbrev pub outputRoom : ℕ
 outputRoom = fieldRoom * (outputWords + 3)
 
--- room for what any byte prints: more than the `O` lines of 24 slices
+-- room for what any byte prints: more than the `O` lines of 24 slices, also where a slice had as many as 13 outputs
 abbrev pub clockRoom : ℕ
-clockRoom = 4096
+clockRoom = 8192

@@ -100,7 +100,8 @@ endIn Stopped q = Nothing
 unfoldable pub endOf : Player → Event
 endOf q = endIn (q .phase) q
 
--- ---- what is printed: "`O`, clock, slice, the five outputs", "within a clock from slice 0 up"
+-- ---- what is printed: "`O`, clock, slice, the five outputs", "within a clock from slice 0 up"; "outputs grow to 6 words a slice" and
+-- "`O` lines grow alike" (02, Ask 4)
 
 unfoldable pub outputLine : (clock : ℕ) → (outputs : List ℕ) → (k : ℕ) → List ℕ
 outputLine clock os k = printed letterO (clock ∷ k ∷ stretch outputWords k os)

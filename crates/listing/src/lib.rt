@@ -37,8 +37,8 @@ pub const OUTPUTS: usize = Outputs::WORDS * MOST_SLICES;
 
 pub const LINE: usize = 512;
 
-// Room in `out` for what any byte prints: more than the `O` lines of 24 slices.
-const CLOCK_ROOM: usize = 4096;
+// Room in `out` for what any byte prints: more than the `O` lines of 24 slices, also where a slice had as many as 13 outputs.
+const CLOCK_ROOM: usize = 8192;
 
 // Plays a piece, byte after byte, as long as `out` has room for the lines of a clock, and prints from the front of `out` on. Does nothing
 // where what is lent is no player's.

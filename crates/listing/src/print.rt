@@ -18,7 +18,16 @@ fn put_slice(clock: u64, k: u64, shown: &[u64], out: &mut [u8], at: usize) -> us
     requires { ⌜ (length (now shown) ≡ outputWords) × (at + outputRoom ≤ length (now out)) ⌝ }
     ensures { λ r. ⌜ Put at (printed letterO (clock ∷ k ∷ now (shown .entry))) (now (out .entry)) r (now (out .exit)) ⌝ }
 {
-    let numbers = [clock, k, shown[0], shown[1], shown[2], shown[3], shown[4]];
+    let numbers = [
+        clock,
+        k,
+        shown[0],
+        shown[1],
+        shown[2],
+        shown[3],
+        shown[4],
+        shown[5],
+    ];
     text::put_line(letters::O, &numbers, out, at)
 }
 

@@ -8,9 +8,9 @@ use lib.IntN.{ℤ, pos, negsuc}
 use lib.Signed.{shrZ}
 use Rattle.word.specs.Word.{word, signed, shifted, highSum, lowSum}
 use Rattle.unit.specs.Choice.{bit}
-use Rattle.unit.specs.Unit.{ones, arithmetic, lanes, logicRows, unitResult, splitResult, preAdder, product, load}
+use Rattle.unit.specs.Unit.{ones, arithmetic, lanes, logicRows, unitResult, splitResult, wrappedSum, preAdder, product, load}
 use Rattle.unit.specs.Detector.{unmasked, detected}
-use Rattle.slice.specs.Slice.{controlsOf, selectsOf, pathsOf, aSide, dSide, adOf, leftOf, rightOf, productOf, operandsOf, sliceOperands, resultOf, settledOf, sliceSettled, outputsOfSettled, cascadeOf, edge, nextOf, sliceOutputs, sliceCascade, sliceNext}
+use Rattle.slice.specs.Slice.{controlsOf, selectsOf, pathsOf, aSide, dSide, preAddedOf, leftOf, rightOf, productOf, operandsOf, sliceOperands, resultOf, settledOf, sliceSettled, outputsOfSettled, cascadeOf, edge, nextOf, sliceOutputs, sliceCascade, sliceNext}
 use Rattle.column.specs.Column.{cascadeInto, shownAt, nextAt, columnShown, columnNext, after}
 use Rattle.packed.specs.Packed.{batch, fed, runAttributes, runPorts, runRegisters, top}
 
@@ -38,7 +38,7 @@ pub record Cases : Type 0 where
   -- 2^47 shifted: 281473902968832
   pub case7 : shifted 48 17 (2 ^ 47) ≡ 281473902968832
   -- d 67108863 + a 1: 67108864, read as −67108864
-  pub case8 : (preAdder 0 67108863 1 ≡ 67108864) × (signed 27 67108864 ≡ negsuc 67108863)
+  pub case8 : (preAdder 0 67108863 1 .ad ≡ 67108864) × (signed 27 67108864 ≡ negsuc 67108863)
   -- −2^26 times −2^17: 8796093022208
   pub case9 : product (word 27 (negsuc 67108863)) (word 18 (negsuc 131071)) ≡ 8796093022208
   -- PATTERN 0, MASK 70368744177663: P 70368744177663 has PD 1; 70368744177664 neither; 211106232532992 has PBD 1
@@ -54,7 +54,7 @@ pub record Cases : Type 0 where
   pub case12 : (highSum (row 7 lowest lowest lowest) ≡ pos 114688) × (lowSum (row 7 lowest lowest lowest) ≡ pos 114688)
 
 pub cases : Cases
-unfolding top fed runAttributes runPorts runRegisters after columnShown columnNext shownAt nextAt cascadeInto sliceNext sliceOutputs sliceCascade nextOf edge load outputsOfSettled cascadeOf sliceSettled settledOf resultOf sliceOperands operandsOf selectsOf controlsOf pathsOf productOf leftOf rightOf adOf aSide dSide splitResult unitResult lanes arithmetic logicRows preAdder product detected unmasked
+unfolding top fed runAttributes runPorts runRegisters after columnShown columnNext shownAt nextAt cascadeInto sliceNext sliceOutputs sliceCascade nextOf edge load outputsOfSettled cascadeOf sliceSettled settledOf resultOf sliceOperands operandsOf selectsOf controlsOf pathsOf productOf leftOf rightOf preAddedOf aSide dSide splitResult unitResult lanes arithmetic logicRows wrappedSum preAdder product detected unmasked
 cases =
     record {
       case1 = refl;
@@ -84,5 +84,5 @@ pub record Slips : Type 0 where
   pub minus-five : (word 48 (negsuc 4) % 2 ^ 4 ≡ 11) × (word 48 (negsuc 5) % 2 ^ 4 ≡ 10)
 
 pub slips : Slips
-unfolding top fed runAttributes runPorts runRegisters after columnShown columnNext shownAt nextAt cascadeInto sliceNext sliceOutputs sliceCascade nextOf edge load outputsOfSettled cascadeOf sliceSettled settledOf resultOf sliceOperands operandsOf selectsOf controlsOf pathsOf productOf leftOf rightOf adOf aSide dSide splitResult unitResult lanes arithmetic preAdder product detected unmasked
+unfolding top fed runAttributes runPorts runRegisters after columnShown columnNext shownAt nextAt cascadeInto sliceNext sliceOutputs sliceCascade nextOf edge load outputsOfSettled cascadeOf sliceSettled settledOf resultOf sliceOperands operandsOf selectsOf controlsOf pathsOf productOf leftOf rightOf preAddedOf aSide dSide splitResult unitResult lanes arithmetic wrappedSum preAdder product detected unmasked
 slips = record { before-the-edge = refl; mode-3-takes-cin = refl; shift-keeps-sign = refl; with-bit-17 = (refl, refl); minus-five = (refl, refl) }

@@ -13,7 +13,7 @@ use Rattle.word.specs.Word.{word, extend, highSum, lowSum}
 use Rattle.word.proofs.Laws.{signed-word, extend-word}
 use Rattle.word.proofs.Integers.{word-add, word-foot}
 use Rattle.word.proofs.PackedWord.{packed, low-read, high-read}
-use Rattle.unit.specs.Unit.{preAdder, product}
+use Rattle.unit.specs.Unit.{wrappedSum, preAdder, product}
 use Rattle.records.specs.Records.{outputWords}
 use Rattle.column.specs.declared.Answer.the-variants.{Accepted}
 use Rattle.column.specs.Refusals.{clockAnswer}
@@ -38,8 +38,8 @@ module _ (a d b : ℤ) (ha : Byte a) (hd : Byte d) (hb : Byte b) where
   product-size = natAbs-mul-le (packed a d) b pair-size (natAbs-le b hb)
 
   -- the pre-adder's word is the packed pair
-  pre-added : preAdder 0 (word 27 d) (word 30 (a *ℤ pos (2 ^ 18)) % 2 ^ 27) ≡ word 27 (packed a d)
-  unfolding preAdder
+  pre-added : preAdder 0 (word 27 d) (word 30 (a *ℤ pos (2 ^ 18)) % 2 ^ 27) .ad ≡ word 27 (packed a d)
+  unfolding preAdder wrappedSum
   pre-added =
       ap (λ (n : ℕ). word 27 (pos (word 27 d + n))) (word-foot 3 27 (a *ℤ pos (2 ^ 18)))
       ∙ word-add 27 d (a *ℤ pos (2 ^ 18))

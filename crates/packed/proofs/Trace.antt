@@ -13,7 +13,7 @@ use Rattle.unit.proofs.Lanes.{one48}
 use Rattle.records.specs.declared.Registers.{Registers}
 use Rattle.slice.specs.declared.inputs.Cascade.{Cascade}
 use Rattle.records.specs.Records.{attributeWords, registerWords, portWords, outputWords, attributesWords, registersOf, registersWords, portsWords}
-use Rattle.slice.specs.Slice.{controlsOf, selectsOf, pathsOf, aSide, dSide, adOf, leftOf, rightOf, productOf, operandsOf, sliceOperands, resultOf, settledOf, sliceSettled, outputsOfSettled, cascadeOf, edge, nextOf, sliceOutputs, sliceCascade, sliceNext}
+use Rattle.slice.specs.Slice.{controlsOf, selectsOf, pathsOf, aSide, dSide, preAddedOf, leftOf, rightOf, productOf, operandsOf, sliceOperands, resultOf, settledOf, sliceSettled, outputsOfSettled, cascadeOf, edge, nextOf, sliceOutputs, sliceCascade, sliceNext}
 use Rattle.column.specs.Column.{stretch, stacked, cascadeInto, shownAt, nextAt, columnShown, columnNext, after}
 use Rattle.column.proofs.Stacks.{stacked-ext, stacked-zeros, stretch-stacked}
 use Rattle.column.proofs.Edges.{shown-length}
@@ -26,7 +26,7 @@ below r (suc k) = record { a = r k .a2; b = r k .b2; p = r k .p }
 
 -- what the pre-adder and the multiplier make of a, d and b, as the unit gets it
 abbrev pub productWord : (a d b : ℤ) → ℕ
-productWord a d b = extend 45 48 (product (preAdder 0 (word 27 d) (word 30 (a *ℤ pos (2 ^ 18)) % 2 ^ 27)) (word 18 b))
+productWord a d b = extend 45 48 (product (preAdder 0 (word 27 d) (word 30 (a *ℤ pos (2 ^ 18)) % 2 ^ 27) .ad) (word 18 b))
 
 above-last : (r : ℕ → Registers) (n : ℕ) → 1 ≤ n → below r n .p ≡ r (n - 1) .p
 above-last r zero h = absurd (omega arith)
@@ -70,7 +70,7 @@ module _ (g : Batch) where
   -- four clocks on, slice k has added the product of what it was fed to what came from below
   pub four-on : (t k : ℕ) → trace (suc (suc (suc (suc t)))) k .p
       ≡ word 48 (pos (below (trace (suc (suc (suc t)))) k .p + 0 + productWord (fed g (g .a) t k) (fed g (g .d) t k) (fed g (g .b) t k) + 0 + 0))
-  unfolding trace sliceNext nextOf edge load sliceSettled settledOf resultOf unitResult arithmetic sliceOperands operandsOf selectsOf controlsOf pathsOf productOf leftOf rightOf adOf aSide dSide
+  unfolding trace sliceNext nextOf edge load sliceSettled settledOf resultOf unitResult arithmetic sliceOperands operandsOf selectsOf controlsOf pathsOf productOf leftOf rightOf preAddedOf aSide dSide
   four-on t k =
       one48 0 0 (productWord (fed g (g .a) t k) (fed g (g .d) t k) (fed g (g .b) t k)) 0 (below (trace (suc (suc (suc t)))) k .p) 0
 

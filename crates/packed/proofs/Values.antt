@@ -5,9 +5,9 @@ use mathlib.Core.Bool.{true, false}
 use mathlib.Core.List.{[], _∷_}
 use lib.ListN.{replicate}
 use lib.IntN.{pos, negsuc}
-use Rattle.unit.specs.Unit.{arithmetic, lanes, unitResult, splitResult, preAdder, product, load}
+use Rattle.unit.specs.Unit.{arithmetic, lanes, unitResult, splitResult, wrappedSum, preAdder, product, load}
 use Rattle.unit.specs.Detector.{unmasked, detected}
-use Rattle.slice.specs.Slice.{controlsOf, selectsOf, pathsOf, aSide, dSide, adOf, leftOf, rightOf, productOf, operandsOf, sliceOperands, resultOf, settledOf, sliceSettled, outputsOfSettled, cascadeOf, edge, nextOf, sliceOutputs, sliceCascade, sliceNext}
+use Rattle.slice.specs.Slice.{controlsOf, selectsOf, pathsOf, aSide, dSide, preAddedOf, leftOf, rightOf, productOf, operandsOf, sliceOperands, resultOf, settledOf, sliceSettled, outputsOfSettled, cascadeOf, edge, nextOf, sliceOutputs, sliceCascade, sliceNext}
 use Rattle.column.specs.Column.{cascadeInto, shownAt, nextAt, columnShown, columnNext, after}
 use Rattle.packed.specs.declared.Run.the-variants.{Ran, BadTerms, BadRows, BadLength}
 use Rattle.packed.specs.Packed.{Batch, batch, fed, runAttributes, runPorts, runRegisters, top, runList, pairs, readAnswers, dot, plainAnswers}
@@ -61,7 +61,7 @@ pub told : Told
 told = record { numbers = (refl, refl, refl, refl); clocks = (refl, refl, refl, refl); places = (refl, refl, refl, refl) }
 
 pub runs : Runs
-unfolding runList top fed runAttributes runPorts runRegisters pairs dot after columnShown columnNext shownAt nextAt cascadeInto sliceNext sliceOutputs sliceCascade nextOf edge load outputsOfSettled cascadeOf sliceSettled settledOf resultOf sliceOperands operandsOf selectsOf controlsOf pathsOf productOf leftOf rightOf adOf aSide dSide splitResult unitResult lanes arithmetic preAdder product detected unmasked
+unfolding runList top fed runAttributes runPorts runRegisters pairs dot after columnShown columnNext shownAt nextAt cascadeInto sliceNext sliceOutputs sliceCascade nextOf edge load outputsOfSettled cascadeOf sliceSettled settledOf resultOf sliceOperands operandsOf selectsOf controlsOf pathsOf productOf leftOf rightOf preAddedOf aSide dSide splitResult unitResult lanes arithmetic wrappedSum preAdder product detected unmasked
 runs = record { list = refl; sums = refl; read = refl; slice-0 = (refl, refl, refl); slice-1 = (refl, refl, refl, refl) }
 
 pub refused : Refused

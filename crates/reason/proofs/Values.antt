@@ -3,14 +3,14 @@ use mathlib.Core.Path.{_≡_, refl}
 use mathlib.Core.List.{List, [], _∷_, _++_, map}
 use Prim.Native.Nat.{ℕ, _-_, _^_}
 use lib.ListN.{replicate}
-use Rattle.unit.specs.Unit.{ones, arithmetic, lanes, logicRows, unitResult, splitResult, preAdder, product}
+use Rattle.unit.specs.Unit.{ones, arithmetic, lanes, logicRows, unitResult, splitResult, wrappedSum, preAdder, product}
 use Rattle.unit.specs.Detector.{unmasked, detected}
 use Rattle.records.specs.declared.Attributes.{Attributes}
 use Rattle.records.specs.declared.Registers.{Registers}
 use Rattle.records.specs.declared.Ports.{Ports}
 use Rattle.slice.specs.declared.inputs.Cascade.{Cascade}
 use Rattle.records.specs.Records.{attributesOf, registersOf, portsOf}
-use Rattle.slice.specs.Slice.{controlsOf, selectsOf, pathsOf, aSide, dSide, adOf, leftOf, rightOf, productOf, operandsOf, sliceOperands, resultOf, settledOf, sliceSettled}
+use Rattle.slice.specs.Slice.{controlsOf, selectsOf, pathsOf, aSide, dSide, preAddedOf, leftOf, rightOf, productOf, operandsOf, sliceOperands, resultOf, settledOf, sliceSettled}
 use Rattle.reason.specs.Reason.{placeNumber, wPlace, xPlace, yPlace, zPlace, cinPlace, placesOf, ruleNumber, ruleOf, reasonOf, noReason, reasonWords}
 
 abbrev told : Attributes → Registers → Ports → Cascade → List ℕ
@@ -96,7 +96,7 @@ pub record Reasons : Type 0 where
   pub zeros : reasonWords noReason ≡ replicate 13 0
 
 pub reasons : Reasons
-unfolding reasonWords reasonOf placesOf ruleOf sliceSettled settledOf resultOf sliceOperands operandsOf selectsOf productOf leftOf rightOf adOf aSide dSide controlsOf pathsOf splitResult unitResult lanes arithmetic logicRows preAdder product detected unmasked
+unfolding reasonWords reasonOf placesOf ruleOf sliceSettled settledOf resultOf sliceOperands operandsOf selectsOf productOf leftOf rightOf preAddedOf aSide dSide controlsOf pathsOf splitResult unitResult lanes arithmetic logicRows wrappedSum preAdder product detected unmasked
 reasons =
     record {
       packed-slice = refl;

@@ -17,13 +17,14 @@ pub record Values : Type 0 where
   pub attributes : attributesWords (attributesOf (upFrom 1 attributeWords)) ≡ upFrom 1 22
   pub registers : registersWords (registersOf (upFrom 1 registerWords)) ≡ upFrom 1 18
   pub ports : portsWords (portsOf (upFrom 1 portWords)) ≡ upFrom 1 11
-  pub outputs : outputsWords (outputsOf (upFrom 1 outputWords)) ≡ upFrom 1 5
+  pub outputs : outputsWords (outputsOf (upFrom 1 outputWords)) ≡ upFrom 1 6
   -- 01 names AREG first, PREG 11th, MASK 21st, and 02, Ask 1, USE_SIMD 22nd
   pub named-attributes : (attributesOf (upFrom 1 22) .areg ≡ 1) × (attributesOf (upFrom 1 22) .preg ≡ 11)
       × (attributesOf (upFrom 1 22) .mask ≡ 21) × (attributesOf (upFrom 1 22) .«use_simd» ≡ 22)
-  -- P 9th and PBDPAST last; OPMODE 5th and RST last; OVERFLOW 4th
+  -- P 9th and PBDPAST last; OPMODE 5th and RST last; OVERFLOW 4th, and 02, Ask 4, PREADDWRAP last
   pub named-others : (registersOf (upFrom 1 18) .p ≡ 9) × (registersOf (upFrom 1 18) .pbdpast ≡ 18)
-      × (portsOf (upFrom 1 11) .opmode ≡ 5) × (portsOf (upFrom 1 11) .rst ≡ 11) × (outputsOf (upFrom 1 5) .overflow ≡ 4)
+      × (portsOf (upFrom 1 11) .opmode ≡ 5) × (portsOf (upFrom 1 11) .rst ≡ 11) × (outputsOf (upFrom 1 6) .overflow ≡ 4)
+      × (outputsOf (upFrom 1 6) .preaddwrap ≡ 6)
   -- a table has a width for each word
   pub tables : (length attributeWidths ≡ attributeWords) × (length registerWidths ≡ registerWords) × (length portWidths ≡ portWords)
   -- a word exceeds its width from its power of two on
@@ -38,7 +39,7 @@ values =
       ports = refl;
       outputs = refl;
       named-attributes = (refl, refl, refl, refl);
-      named-others = (refl, refl, refl, refl, refl);
+      named-others = (refl, refl, refl, refl, refl, refl);
       tables = (refl, refl, refl);
       widths = (refl, refl);
     }

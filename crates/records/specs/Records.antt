@@ -10,7 +10,7 @@ use Rattle.records.specs.declared.Registers.{Registers}
 use Rattle.records.specs.declared.Ports.{Ports}
 use Rattle.records.specs.declared.Outputs.{Outputs}
 
--- Attributes 22 (02, Ask 1), registers 18, ports 11, outputs 5 a slice
+-- Attributes 22 (02, Ask 1), registers 18, ports 11, outputs 6 (02, Ask 4) a slice
 abbrev pub attributeWords : ℕ
 attributeWords = 22
 
@@ -21,7 +21,7 @@ abbrev pub portWords : ℕ
 portWords = 11
 
 abbrev pub outputWords : ℕ
-outputWords = 5
+outputWords = 6
 
 -- The width of every word, in one table a record. AREG, BREG, the CASCREGs and USE_SIMD have two bits, and their list beside (`legal`,
 -- `listed`, `splitFits`)
@@ -180,6 +180,7 @@ outputsOf ws =
       patternbdetect = getD ws 2 0;
       overflow = getD ws 3 0;
       underflow = getD ws 4 0;
+      preaddwrap = getD ws 5 0;
     }
 
 abbrev pub outputsWords : Outputs → List ℕ
@@ -189,4 +190,5 @@ outputsWords r =
     ∷ r .patternbdetect
     ∷ r .overflow
     ∷ r .underflow
+    ∷ r .preaddwrap
     ∷ []

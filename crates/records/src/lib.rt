@@ -388,10 +388,11 @@ pub struct Outputs {
     pub patternbdetect: u64,
     pub overflow: u64,
     pub underflow: u64,
+    pub preaddwrap: u64,
 }
 
 impl Outputs {
-    pub const WORDS: usize = 5;
+    pub const WORDS: usize = 6;
 
     // Every word 0.
     pub fn cleared() -> Outputs
@@ -403,6 +404,7 @@ impl Outputs {
             patternbdetect: 0,
             overflow: 0,
             underflow: 0,
+            preaddwrap: 0,
         }
     }
 
@@ -415,6 +417,7 @@ impl Outputs {
             self.patternbdetect,
             self.overflow,
             self.underflow,
+            self.preaddwrap,
         ]
     }
 }

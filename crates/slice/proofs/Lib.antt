@@ -1,5 +1,6 @@
 pub mod Widths
 pub mod Registered
 pub mod Flags
+pub mod Wraps
 pub mod Unique
 pub mod Values

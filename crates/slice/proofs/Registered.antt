@@ -1,24 +1,27 @@
--- With PREG 1, what a slice shows depends on its registers before the edge alone. Assumes nothing.
+-- With PREG 1, P and the flags that a slice shows depend on its registers before the edge alone. Assumes nothing.
 use mathlib.Core.Path.{_≡_}
+use Prim.Native.Nat.{ℕ}
 use Rattle.records.specs.declared.Attributes.{Attributes}
 use Rattle.records.specs.declared.Registers.{Registers}
 use Rattle.records.specs.declared.Ports.{Ports}
 use Rattle.records.specs.declared.Outputs.{Outputs}
 use Rattle.slice.specs.declared.inputs.Cascade.{Cascade}
-use Rattle.slice.specs.Slice.{strayed, outputsOfSettled, cascadeOf, sliceOutputs, sliceCascade}
+use Rattle.slice.specs.Slice.{strayed, sliceSettled, outputsOfSettled, cascadeOf, sliceOutputs, sliceCascade}
 
--- the registers' own P, PD, PBD, and the flags that they light
-abbrev pub registered : Registers → Outputs
-registered r =
+-- the registers' own P, PD, PBD, and the flags that they light; the pre-adder's mark is no register's
+abbrev pub registered : Registers → (wrap : ℕ) → Outputs
+registered r wrap =
     record {
       p = r .p;
       patterndetect = r .pd;
       patternbdetect = r .pbd;
       overflow = strayed (r .pdpast) (r .pd) (r .pbd);
       underflow = strayed (r .pbdpast) (r .pd) (r .pbd);
+      preaddwrap = wrap;
     }
 
-pub registered-outputs : (a : Attributes) (r : Registers) (p : Ports) (x : Cascade) → a .preg ≡ 1 → sliceOutputs a r p x ≡ registered r
+pub registered-outputs : (a : Attributes) (r : Registers) (p : Ports) (x : Cascade) → a .preg ≡ 1
+    → sliceOutputs a r p x ≡ registered r (sliceSettled a r p x .wrap)
 unfolding sliceOutputs outputsOfSettled
 registered-outputs a r p x e = rw e
 

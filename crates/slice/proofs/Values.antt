@@ -3,14 +3,14 @@ use mathlib.Core.Path.{_≡_, refl}
 use mathlib.Core.List.{List, [], _∷_, _++_}
 use lib.ListN.{replicate}
 use Prim.Native.Nat.{ℕ, _+_, _-_, _*_, _^_}
-use Rattle.unit.specs.Unit.{arithmetic, lanes, logicRows, unitResult, splitResult, preAdder, product, load}
+use Rattle.unit.specs.Unit.{arithmetic, lanes, logicRows, unitResult, splitResult, wrappedSum, preAdder, product, load}
 use Rattle.unit.specs.Detector.{unmasked, detected}
 use Rattle.records.specs.declared.Attributes.{Attributes}
 use Rattle.records.specs.declared.Registers.{Registers}
 use Rattle.records.specs.declared.Ports.{Ports}
 use Rattle.slice.specs.declared.inputs.Cascade.{Cascade}
 use Rattle.records.specs.Records.{attributesOf, registersOf, portsOf, outputsWords}
-use Rattle.slice.specs.Slice.{controlsOf, selectsOf, pathsOf, aSide, dSide, adOf, leftOf, rightOf, productOf, operandsOf, sliceOperands, resultOf, settledOf, sliceSettled, outputsOfSettled, cascadeOf, edge, nextOf, sliceOutputs, sliceCascade, sliceNext}
+use Rattle.slice.specs.Slice.{controlsOf, selectsOf, pathsOf, aSide, dSide, preAddedOf, leftOf, rightOf, productOf, operandsOf, sliceOperands, resultOf, settledOf, sliceSettled, outputsOfSettled, cascadeOf, edge, nextOf, sliceOutputs, sliceCascade, sliceNext}
 
 -- settings, of which all others are 0
 abbrev plain : Attributes
@@ -64,7 +64,7 @@ p-of a r p x = sliceOutputs a r p x .p
 
 pub record Clocks : Type 0 where
   -- 01, "Port listings": attributes all 0, B 5, C 7, OPMODE 15 shows 12
-  pub worked : outputsWords (sliceOutputs plain empty (portsOf (0 ∷ 5 ∷ 7 ∷ 0 ∷ 15 ∷ [])) bottom) ≡ 12 ∷ 0 ∷ 0 ∷ 0 ∷ 0 ∷ []
+  pub worked : outputsWords (sliceOutputs plain empty (portsOf (0 ∷ 5 ∷ 7 ∷ 0 ∷ 15 ∷ [])) bottom) ≡ 12 ∷ 0 ∷ 0 ∷ 0 ∷ 0 ∷ 0 ∷ []
   -- X and Y both 1 contribute M once: 3 times 4, not twice that
   pub once : p-of multiplying empty (given 5 0 0 0 0 0 0) bottom ≡ 12
   -- the pre-adder: D + A, D - A, and A cleared by INMODE bit 1, times B
@@ -87,8 +87,8 @@ pub record Clocks : Type 0 where
       × (p-of (split 1) empty (given 56 0 0 0 1 0 0) bottom ≡ 16777215 * 2 ^ 24 + 5)
   pub four12 : p-of (split 2) empty (given 56 0 0 0 1 0 0) bottom ≡ (4095 * 2 ^ 24 + 4095 * 2 ^ 12 + 4095) * 2 ^ 12 + 5
   -- with PREG 1 the registers show; with 0 what settles, and no flag
-  pub shows-register : outputsWords (sliceOutputs registered (showing 9 0 1 0 0) (given 3 0 0 0 0 0 0) bottom) ≡ 9 ∷ 0 ∷ 1 ∷ 0 ∷ 0 ∷ []
-  pub shows-settled : outputsWords (sliceOutputs plain (showing 9 0 1 0 0) (given 0 0 0 0 0 0 0) bottom) ≡ 0 ∷ 1 ∷ 0 ∷ 0 ∷ 0 ∷ []
+  pub shows-register : outputsWords (sliceOutputs registered (showing 9 0 1 0 0) (given 3 0 0 0 0 0 0) bottom) ≡ 9 ∷ 0 ∷ 1 ∷ 0 ∷ 0 ∷ 0 ∷ []
+  pub shows-settled : outputsWords (sliceOutputs plain (showing 9 0 1 0 0) (given 0 0 0 0 0 0 0) bottom) ≡ 0 ∷ 1 ∷ 0 ∷ 0 ∷ 0 ∷ 0 ∷ []
   -- ACOUT and BCOUT: the first register where AREG is 2 and ACASCREG 1, else the path
   pub cascade-1 : (sliceCascade deep1 held (given 0 0 0 0 0 0 0) bottom .a ≡ 11) × (sliceCascade deep1 held (given 0 0 0 0 0 0 0) bottom .b ≡ 33)
   pub cascade-2 : (sliceCascade deep2 held (given 0 0 0 0 0 0 0) bottom .a ≡ 22) × (sliceCascade deep2 held (given 0 0 0 0 0 0 0) bottom .b ≡ 44)
@@ -131,10 +131,40 @@ pub record Flags : Type 0 where
       × (sliceNext (masking (2 ^ 48 - 1)) empty (given 12 0 0 0 0 256 0) bottom .pbd ≡ 1)
   pub none-of-all-masked : flags (masking (2 ^ 48 - 1)) 1 1 1 1 ≡ 0 ∷ 0 ∷ []
   -- the last legal sums and the first outside, and a swing over the whole range each way
-  pub one-over : added 0 1 (showing (2 ^ 46 - 1) 1 0 0 0) ≡ 2 ^ 46 ∷ 0 ∷ 0 ∷ 1 ∷ 0 ∷ []
-  pub one-under : added 3 1 (showing (2 ^ 48 - 2 ^ 46) 0 1 0 0) ≡ (2 ^ 48 - 2 ^ 46 - 1) ∷ 0 ∷ 0 ∷ 0 ∷ 1 ∷ []
-  pub whole-swing-down : added 3 (2 ^ 47 - 1) (showing (2 ^ 46 - 1) 1 0 0 0) ≡ (2 ^ 48 - 2 ^ 46) ∷ 0 ∷ 1 ∷ 0 ∷ 0 ∷ []
-  pub whole-swing-up : added 0 (2 ^ 47 - 1) (showing (2 ^ 48 - 2 ^ 46) 0 1 0 0) ≡ (2 ^ 46 - 1) ∷ 1 ∷ 0 ∷ 0 ∷ 0 ∷ []
+  pub one-over : added 0 1 (showing (2 ^ 46 - 1) 1 0 0 0) ≡ 2 ^ 46 ∷ 0 ∷ 0 ∷ 1 ∷ 0 ∷ 0 ∷ []
+  pub one-under : added 3 1 (showing (2 ^ 48 - 2 ^ 46) 0 1 0 0) ≡ (2 ^ 48 - 2 ^ 46 - 1) ∷ 0 ∷ 0 ∷ 0 ∷ 1 ∷ 0 ∷ []
+  pub whole-swing-down : added 3 (2 ^ 47 - 1) (showing (2 ^ 46 - 1) 1 0 0 0) ≡ (2 ^ 48 - 2 ^ 46) ∷ 0 ∷ 1 ∷ 0 ∷ 0 ∷ 0 ∷ []
+  pub whole-swing-up : added 0 (2 ^ 47 - 1) (showing (2 ^ 48 - 2 ^ 46) 0 1 0 0) ≡ (2 ^ 46 - 1) ∷ 1 ∷ 0 ∷ 0 ∷ 0 ∷ 0 ∷ []
+
+-- the mark of a slice with AMULTSEL 1, by ADREG, PREG and USE_MULT
+abbrev marking : (adreg preg mult : ℕ) → Attributes
+marking adreg preg mult = attributesOf (replicate 8 0 ++ (adreg ∷ 0 ∷ preg ∷ replicate 5 0 ++ (mult ∷ 1 ∷ [])))
+
+abbrev sides : (inmode a d ce : ℕ) → Ports
+sides inmode a d ce = portsOf (a ∷ 0 ∷ 0 ∷ d ∷ 0 ∷ 0 ∷ inmode ∷ 0 ∷ 0 ∷ ce ∷ [])
+
+abbrev mark : Attributes → Registers → Ports → ℕ
+mark a r p = sliceOutputs a r p bottom .preaddwrap
+
+-- 02, Ask 4; 67108863 is the highest number of 27 bits, and 67108864 the pattern of the lowest, -67108864
+pub record Wraps : Type 0 where
+  -- INMODE 4 is D + A, 12 is D - A: the same words, by sum and by difference
+  pub over-by-sum : (mark (marking 0 0 1) empty (sides 4 1 67108863 0) ≡ 1) × (mark (marking 0 0 1) empty (sides 12 1 67108863 0) ≡ 0)
+  pub under-by-difference : (mark (marking 0 0 1) empty (sides 4 1 67108864 0) ≡ 0) × (mark (marking 0 0 1) empty (sides 12 1 67108864 0) ≡ 1)
+  -- INMODE 8 is 0 - A
+  pub lowest-turned : (mark (marking 0 0 1) empty (sides 8 67108864 1 0) ≡ 1) × (mark (marking 0 0 1) empty (sides 0 67108864 1 0) ≡ 0)
+  -- INMODE bit 1 clears a, and bit 0 takes A1, which is 11; of A the low 27 bits are read
+  pub a-cleared : mark (marking 0 0 1) empty (sides 6 1 67108863 0) ≡ 0
+  pub a1-taken : (mark (marking 0 0 1) held (sides 5 0 67108863 0) ≡ 1) × (mark (marking 0 0 1) held (sides 4 0 67108863 0) ≡ 0)
+  pub low-27 : mark (marking 0 0 1) empty (sides 4 (7 * 2 ^ 27 + 1) 67108862 0) ≡ 0
+  -- ADREG, PREG and USE_MULT change nothing, and neither does AMULTSEL
+  pub whatever-is-set : (mark (marking 1 0 1) empty (sides 4 1 67108863 0) ≡ 1) × (mark (marking 0 1 1) empty (sides 4 1 67108863 0) ≡ 1)
+      × (mark (marking 1 1 0) empty (sides 4 1 67108863 0) ≡ 1) × (mark plain empty (sides 4 1 67108863 0) ≡ 1)
+  -- a clock later AD holds the wrapped word, and the mark is that of the sides of that clock
+  pub not-held : (sliceNext (marking 1 0 1) empty (sides 4 1 67108863 64) bottom .ad ≡ 67108864)
+      × (mark (marking 1 0 1) (sliceNext (marking 1 0 1) empty (sides 4 1 67108863 64) bottom) (sides 4 1 1 0) ≡ 0)
+  -- it is the last of six
+  pub sixth : outputsWords (sliceOutputs (marking 0 0 1) empty (sides 4 1 67108863 0) bottom) ≡ 0 ∷ 1 ∷ 0 ∷ 0 ∷ 0 ∷ 1 ∷ []
 
 pub record Edges : Type 0 where
   -- A2 loads A1 when AREG is 2, else the input; A1 loads the input
@@ -156,7 +186,7 @@ pub record Edges : Type 0 where
   pub m-loads : sliceNext plain empty (given 0 0 0 0 0 128 0) bottom .m ≡ 12
 
 pub clocks : Clocks
-unfolding sliceOutputs sliceCascade outputsOfSettled cascadeOf sliceSettled settledOf resultOf sliceOperands operandsOf selectsOf productOf leftOf rightOf adOf aSide dSide controlsOf pathsOf splitResult unitResult lanes arithmetic logicRows preAdder product detected unmasked
+unfolding sliceOutputs sliceCascade outputsOfSettled cascadeOf sliceSettled settledOf resultOf sliceOperands operandsOf selectsOf productOf leftOf rightOf preAddedOf aSide dSide controlsOf pathsOf splitResult unitResult lanes arithmetic logicRows wrappedSum preAdder product detected unmasked
 clocks =
     record {
       worked = refl;
@@ -181,7 +211,7 @@ clocks =
     }
 
 pub flag-values : Flags
-unfolding sliceOutputs outputsOfSettled sliceNext nextOf edge load sliceSettled settledOf resultOf sliceOperands operandsOf selectsOf productOf leftOf rightOf adOf aSide dSide controlsOf pathsOf splitResult unitResult lanes arithmetic logicRows preAdder product detected unmasked
+unfolding sliceOutputs outputsOfSettled sliceNext nextOf edge load sliceSettled settledOf resultOf sliceOperands operandsOf selectsOf productOf leftOf rightOf preAddedOf aSide dSide controlsOf pathsOf splitResult unitResult lanes arithmetic logicRows wrappedSum preAdder product detected unmasked
 flag-values =
     record {
       over = refl;
@@ -203,8 +233,23 @@ flag-values =
       whole-swing-up = refl;
     }
 
+pub wraps : Wraps
+unfolding sliceOutputs outputsOfSettled sliceNext nextOf edge load sliceSettled settledOf resultOf sliceOperands operandsOf selectsOf productOf leftOf rightOf preAddedOf aSide dSide controlsOf pathsOf splitResult unitResult lanes arithmetic logicRows wrappedSum preAdder product detected unmasked
+wraps =
+    record {
+      over-by-sum = (refl, refl);
+      under-by-difference = (refl, refl);
+      lowest-turned = (refl, refl);
+      a-cleared = refl;
+      a1-taken = (refl, refl);
+      low-27 = refl;
+      whatever-is-set = (refl, refl, refl, refl);
+      not-held = (refl, refl);
+      sixth = refl;
+    }
+
 pub edges : Edges
-unfolding sliceNext nextOf edge load sliceSettled settledOf resultOf sliceOperands operandsOf selectsOf productOf leftOf rightOf adOf aSide dSide controlsOf pathsOf splitResult unitResult lanes arithmetic logicRows preAdder product detected unmasked
+unfolding sliceNext nextOf edge load sliceSettled settledOf resultOf sliceOperands operandsOf selectsOf productOf leftOf rightOf preAddedOf aSide dSide controlsOf pathsOf splitResult unitResult lanes arithmetic logicRows wrappedSum preAdder product detected unmasked
 edges =
     record {
       a2-from-a1 = (refl, refl);

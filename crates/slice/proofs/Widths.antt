@@ -14,7 +14,7 @@ use Rattle.records.specs.declared.Ports.{Ports}
 use Rattle.slice.specs.declared.inputs.Cascade.{Cascade}
 use Rattle.records.specs.Records.{registerWidths, portWidths, registersWords, portsWords}
 use Rattle.records.proofs.Fits.{Fit, none, more, fit-at}
-use Rattle.slice.specs.Slice.{pathsOf, adOf, productOf, resultOf, settledOf, sliceSettled, outputsOfSettled, cascadeOf, edge, nextOf, sliceOutputs, sliceCascade, sliceNext}
+use Rattle.slice.specs.Slice.{pathsOf, preAddedOf, productOf, resultOf, settledOf, sliceSettled, outputsOfSettled, cascadeOf, edge, nextOf, sliceOutputs, sliceCascade, sliceNext}
 
 -- the cascade: A 30 bits, B 18, P 48
 abbrev pub CascadeFit : Cascade → Type 0
@@ -40,7 +40,7 @@ module _ (a : Attributes) {r : Registers} {p : Ports} {x : Cascade} where
 
   pub next-fit : Fit registerWidths (registersWords r) → Fit portWidths (portsWords p) → CascadeFit x
       → Fit registerWidths (registersWords (sliceNext a r p x))
-  unfolding sliceNext nextOf pathsOf sliceSettled settledOf resultOf productOf adOf
+  unfolding sliceNext nextOf pathsOf sliceSettled settledOf resultOf productOf preAddedOf
   next-fit rs ps xs =
       let ain = mux-lt (a .«a_input») (word-lt ps 0 tt) (word-lt xs 0 tt) in
       let bin = mux-lt (a .«b_input») (word-lt ps 1 tt) (word-lt xs 1 tt) in

@@ -8,6 +8,7 @@ use Rattle.word.specs.Word.{extend, shifted}
 use Rattle.unit.specs.Choice.{mux, choose, bit}
 use Rattle.unit.specs.Unit.{ones, splitResult, preAdder, product, load}
 use Rattle.unit.specs.Detector.{detected}
+use Rattle.unit.specs.declared.PreAdded.{PreAdded}
 use Rattle.records.specs.declared.Attributes.{Attributes}
 use Rattle.records.specs.declared.Registers.{Registers}
 use Rattle.records.specs.declared.Ports.{Ports}
@@ -61,21 +62,22 @@ aSide r k s = mux (bit (k .inmode) 1) (mux (bit (k .inmode) 0) (s .a) (r .a1) % 
 unfoldable pub dSide : Controls → Paths → ℕ
 dSide k s = mux (bit (k .inmode) 2) 0 (s .d)
 
--- AD is d + a, or d − a if bit 3
-unfoldable pub adOf : Registers → Controls → Paths → ℕ
-adOf r k s = preAdder (bit (k .inmode) 3) (dSide k s) (aSide r k s)
+-- AD is d + a, or d − a if bit 3; with it goes the mark whether that wrapped (02, Ask 4)
+unfoldable pub preAddedOf : Registers → Controls → Paths → PreAdded
+preAddedOf r k s = preAdder (bit (k .inmode) 3) (dSide k s) (aSide r k s)
 
 -- Multiplier: left side a or AD (AMULTSEL), AD from the register when ADREG is 1
 unfoldable pub leftOf : Attributes → Registers → Controls → Paths → ℕ
-leftOf a r k s = mux (a .amultsel) (aSide r k s) (mux (a .adreg) (adOf r k s) (r .ad))
+leftOf a r k s = mux (a .amultsel) (aSide r k s) (mux (a .adreg) (preAddedOf r k s .ad) (r .ad))
 
 -- right side B1 if INMODE bit 4, else the B path
 unfoldable pub rightOf : Registers → Controls → Paths → ℕ
 rightOf r k s = mux (bit (k .inmode) 4) (s .b) (r .b1)
 
--- What AD and M load
+-- What AD and M load, and the pre-adder's mark
 unfoldable pub productOf : Attributes → Registers → Controls → Paths → Product
-productOf a r k s = record { ad = adOf r k s; m = product (leftOf a r k s) (rightOf r k s) }
+productOf a r k s =
+    record { ad = preAddedOf r k s .ad; wrap = preAddedOf r k s .wrap; m = product (leftOf a r k s) (rightOf r k s) }
 
 -- A:B, the A path above the B path
 abbrev pub joined : (a b : ℕ) → ℕ
@@ -117,11 +119,12 @@ sliceOperands a r p x =
 unfoldable pub resultOf : (simd alumode : ℕ) → Operands → ℕ
 resultOf simd alumode o = splitResult simd alumode (o .w) (o .x) (o .y) (o .z) (o .cin)
 
--- What settles before the edge: AD, M, the unit's result, and the detector on it
+-- What settles before the edge: AD and its mark, M, the unit's result, and the detector on it
 unfoldable pub settledOf : Attributes → Product → (result : ℕ) → Settled
 settledOf a t result =
     record {
       ad = t .ad;
+      wrap = t .wrap;
       m = t .m;
       p = result;
       pd = detected result (a .pattern) (a .mask) .pd;
@@ -137,7 +140,8 @@ abbrev pub strayed : (past pd pbd : ℕ) → ℕ
 strayed past pd pbd = cond (eqb past 1 && eqb pd 0 && eqb pbd 0) 1 0
 
 -- With PREG 1 the outputs show registers P, PD, PBD; with 0, the settled values. OVERFLOW is PDPAST 1, UNDERFLOW is PBDPAST 1, each
--- with PD and PBD both 0 (02, Ask 2), read from the registers; both 0 when PREG is 0
+-- with PD and PBD both 0 (02, Ask 2), read from the registers; both 0 when PREG is 0. PREADDWRAP is the pre-adder's mark "as it settles
+-- before AD" (02, Ask 4), whatever the registers
 unfoldable pub outputsOfSettled : Attributes → Registers → Settled → Outputs
 outputsOfSettled a r t =
     record {
@@ -146,6 +150,7 @@ outputsOfSettled a r t =
       patternbdetect = mux (a .preg) (t .pbd) (r .pbd);
       overflow = mux (a .preg) 0 (strayed (r .pdpast) (r .pd) (r .pbd));
       underflow = mux (a .preg) 0 (strayed (r .pbdpast) (r .pd) (r .pbd));
+      preaddwrap = t .wrap;
     }
 
 -- ACOUT is the A path, but A1 when AREG is 2 and ACASCREG is 1; B alike; PCOUT is the output P

@@ -18,9 +18,10 @@ use records::Outputs;
 use records::Ports;
 use records::Registers;
 
-// What settles: AD, M, P, PD and PBD load it.
+// What settles: AD, M, P, PD and PBD load it; the pre-adder's mark is shown and held nowhere.
 pub struct Settled {
     pub ad: u64,
+    pub wrap: u64,
     pub m: u64,
     pub p: u64,
     pub pd: u64,
@@ -41,6 +42,7 @@ fn settled_from(a: Attributes, t: Product, result: u64) -> Settled
     let flags = unit::detect(result, a.pattern, a.mask);
     Settled {
         ad: t.ad,
+        wrap: t.wrap,
         m: t.m,
         p: result,
         pd: flags.pd,
@@ -51,14 +53,15 @@ fn settled_from(a: Attributes, t: Product, result: u64) -> Settled
 fn shown(a: Attributes, r: Registers, t: Settled) -> Outputs
     ensures { λ o. ⌜ o ≡ outputsOfSettled a r t ⌝ }
 {
-    // The gate of both flags: 1 with PREG 1 while PD and PBD are both 0.
-    let gate = mux(a.preg, 0, pick((r.pd == 0) & (r.pbd == 0), 1, 0));
+    // The gate of both flags: PREG 1, with PD and PBD both 0.
+    let gate = (a.preg != 0) & (r.pd == 0) & (r.pbd == 0);
     Outputs {
         p: mux(a.preg, t.p, r.p),
         patterndetect: mux(a.preg, t.pd, r.pd),
         patternbdetect: mux(a.preg, t.pbd, r.pbd),
-        overflow: mux(gate, 0, pick(r.pdpast == 1, 1, 0)),
-        underflow: mux(gate, 0, pick(r.pbdpast == 1, 1, 0)),
+        overflow: pick(gate & (r.pdpast == 1), 1, 0),
+        underflow: pick(gate & (r.pbdpast == 1), 1, 0),
+        preaddwrap: t.wrap,
     }
 }
 
@@ -166,8 +169,8 @@ pub fn stepped(a: Attributes, r: Registers, p: Ports, x: Cascade) -> Step
     let result = unit::split_result(a.use_simd, k.alumode, o.w, o.x, o.y, o.z, o.cin);
     let v = settled_from(a, t, result);
     let shown = shown(a, r, v);
-    let up = handed_up(a, r, s, shown.p);
     let next = loaded(a, r, p, s, v);
+    let up = handed_up(a, r, s, shown.p);
     Step {
         next: next,
         shown: shown,

@@ -1,4 +1,4 @@
-// The pre-adder and the multiplier: what AD and M load.
+// The pre-adder and the multiplier: what AD and M load, and whether the pre-adder wrapped.
 ghost use mathlib.Core.Path.{_≡_};
 ghost use Rattle.unit.specs.Choice.{mux};
 ghost use Rattle.slice.specs.Slice.{aSide, dSide, productOf};
@@ -11,6 +11,7 @@ use records::Registers;
 
 pub struct Product {
     pub ad: u64,
+    pub wrap: u64,
     pub m: u64,
 }
 
@@ -34,11 +35,12 @@ pub fn multiplied(a: Attributes, r: Registers, k: Controls, s: Paths) -> Product
     ensures { λ t. ⌜ t ≡ productOf a r k s ⌝ }
 {
     let side = a_side(r, k, s);
-    let ad = unit::pre_adder(bit(k.inmode, 3), d_side(k, s), side);
-    let left = mux(a.amultsel, side, mux(a.adreg, ad, r.ad));
+    let added = unit::pre_adder(bit(k.inmode, 3), d_side(k, s), side);
+    let left = mux(a.amultsel, side, mux(a.adreg, added.ad, r.ad));
     let right = mux(bit(k.inmode, 4), s.b, r.b1);
     Product {
-        ad: ad,
+        ad: added.ad,
+        wrap: added.wrap,
         m: unit::multiply(left, right),
     }
 }

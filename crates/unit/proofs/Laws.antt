@@ -13,7 +13,7 @@ use lib.IntN.{pos, _+ℤ_, _-ℤ_, _*ℤ_}
 use Rattle.word.specs.Word.{signed}
 use Rattle.word.proofs.Laws.{word-lt}
 use Rattle.unit.specs.Choice.{mux, choose}
-use Rattle.unit.specs.Unit.{ones, arithmetic, byY, compl, logicRows, unitResult, preAdder, product, load}
+use Rattle.unit.specs.Unit.{ones, arithmetic, byY, compl, logicRows, unitResult, wrappedSum, preAdder, product, load}
 use Rattle.unit.specs.Detector.{unmasked, equal, differs, detected}
 
 pub mux-1 : (s x y : ℕ) → (s ≡ 0 → ⊥) → mux s x y ≡ y
@@ -96,8 +96,8 @@ unit-lt mode w x y z cin =
     cond-lt (ltb mode 4) (arithmetic-lt 48 mode w x y z cin)
     (logic-lt mode (x % 2 ^ 48) y (z % 2 ^ 48) (mod-lt x (pow-pos 48)) (mod-lt z (pow-pos 48)))
 
-pub pre-adder-lt : (subtract d a : ℕ) → preAdder subtract d a < 2 ^ 27
-unfolding preAdder
+pub pre-adder-lt : (subtract d a : ℕ) → preAdder subtract d a .ad < 2 ^ 27
+unfolding preAdder wrappedSum
 pre-adder-lt subtract d a = mux-lt subtract (word-lt 27 (pos (d + a))) (word-lt 27 (pos d -ℤ pos a))
 
 pub product-lt : (left right : ℕ) → product left right < 2 ^ 45

@@ -12,7 +12,7 @@ use lib.Bits.{bitOr, bitXor, or-add-and, and-mask, xor-zero-r}
 use lib.IntN.{ℤ, pos, negsuc}
 use lib.Signed.{leZ, ltZ}
 use Rattle.word.specs.Word.{signed}
-use Rattle.word.proofs.Laws.{cases}
+use Rattle.word.proofs.Laws.{cases, and-true}
 use Rattle.unit.specs.Detector.{unmasked, equal, differs, detected}
 use Rattle.unit.proofs.Masks.{hides-differing, hides-equal}
 
@@ -41,10 +41,6 @@ low-mask n x = by (ltb x (2 ^ n)) (ltb-true x (2 ^ n)) (ltb-false x (2 ^ n))
     by : (t : Bool) → (t ≡ true → x < 2 ^ n) → (t ≡ false → 2 ^ n ≤ x) → eqb (bitOr x (2 ^ n - 1)) (2 ^ n - 1) ≡ t
     by true f g = eq-eqb (bitOr x (2 ^ n - 1)) (2 ^ n - 1) (omega (arith, parts, mod-eq-of-lt (f refl)))
     by false f g = ne-eqb (bitOr x (2 ^ n - 1)) (2 ^ n - 1) (λ e. omega (arith, parts, g refl, mod-lt x (pow-pos n)))
-
-and-true : (b : Bool) → b && true ≡ b
-and-true true = refl
-and-true false = refl
 
 -- of w bits, more than are masked
 module _ (w n p : ℕ) (fewer : n < w) where

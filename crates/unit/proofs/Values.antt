@@ -1,14 +1,22 @@
--- Values of the parts, in one statement, by computation: what 01's sentences say of the modes, the logic rows, the lanes, the detector, the
--- load and the adder call. 01's twelve cases stand together in `packed`, `Cases`. Assumes nothing.
+-- Values of the parts, in one statement, by computation: what 01's sentences say of the modes, the logic rows, the lanes, the pre-adder, the
+-- detector, the load and the adder call. 01's twelve cases stand together in `packed`, `Cases`. Assumes nothing.
 use Prim.Native.Nat.{ℕ, _+_, _-_, _*_, _^_}
 use mathlib.Core.Path.{_≡_, refl}
 use Rattle.word.specs.Word.{extend}
-use Rattle.unit.specs.Unit.{ones, arithmetic, lanes, logicRows, unitResult, splitResult, preAdder, product, load, adder}
+use Rattle.unit.specs.declared.PreAdded.{PreAdded}
+use Rattle.unit.specs.Unit.{ones, arithmetic, lanes, logicRows, unitResult, splitResult, wrappedSum, preAdder, product, load, adder}
 use Rattle.unit.specs.Detector.{unmasked, detected}
 
 -- a logic mode's result at X 12 and Z 10, with a CIN that is ignored
 abbrev row : (mode y : ℕ) → ℕ
 row mode y = unitResult mode 0 12 y 10 1
+
+-- what the pre-adder makes, and a side below 0 as its pattern of 27 bits
+abbrev added : (ad wrap : ℕ) → PreAdded
+added ad wrap = record { ad = ad; wrap = wrap }
+
+abbrev minus : ℕ → ℕ
+minus n = 2 ^ 27 - n
 
 pub record Values : Type 0 where
   -- mode 2 is the complement of the sum, and mode 3 takes CIN off
@@ -33,8 +41,23 @@ pub record Values : Type 0 where
   pub lanes1 : splitResult 2 1 0 0 0 (1 + 2 * 2 ^ 12 + 3 * 2 ^ 24 + 4 * 2 ^ 36) 1 ≡ 4095 + 4093 * 2 ^ 12 + 4092 * 2 ^ 24 + 4091 * 2 ^ 36
   -- logic sees 48 bits
   pub logic : (splitResult 2 5 0 12 0 10 0 ≡ 281474976710649) × (splitResult 1 12 0 (ones 48) 0 (2 ^ 24 - 1) 0 ≡ 2 ^ 24 - 1)
-  -- d - a below 0, a product with either side below 0, and its extension
-  pub subtracts : preAdder 1 0 1 ≡ 134217727
+  -- d - a below 0
+  pub subtracts : preAdder 1 0 1 ≡ added 134217727 0
+  -- the pre-adder's mark (02, Ask 4): one over the highest, which is 01's case 8, and one under the lowest, by sum and by difference
+  pub over : (preAdder 0 67108863 1 ≡ added 67108864 1) × (preAdder 1 67108863 (minus 1) ≡ added 67108864 1)
+  pub under : (preAdder 1 67108864 1 ≡ added 67108863 1) × (preAdder 0 67108864 (minus 1) ≡ added 67108863 1)
+  -- 0 - (-67108864) is one over the highest too; 0 + (-67108864), and both ends with 0, are in range
+  pub lowest-turned : (preAdder 1 0 67108864 ≡ added 67108864 1) × (preAdder 0 0 67108864 ≡ added 67108864 0)
+  pub ends : (preAdder 0 67108863 0 ≡ added 67108863 0) × (preAdder 1 67108863 0 ≡ added 67108863 0)
+      × (preAdder 0 67108864 0 ≡ added 67108864 0) × (preAdder 1 67108864 0 ≡ added 67108864 0)
+  -- the same words, whose sum wraps and whose difference does not, and the other way round
+  pub sum-alone : (preAdder 0 67108863 67108863 ≡ added 134217726 1) × (preAdder 1 67108863 67108863 ≡ added 0 0)
+  pub difference-alone : (preAdder 0 67108863 (minus 67108863) ≡ added 0 0) × (preAdder 1 67108863 (minus 67108863) ≡ added 134217726 1)
+  -- patterns that carry out of 27 bits, where no signed sum leaves the range; those that borrow are `subtracts`
+  pub carries : preAdder 0 (minus 1) 1 ≡ added 0 0
+  -- of a side the low 27 bits alone are read
+  pub low-27 : preAdder 0 (2 ^ 27 + 5) (2 ^ 30 + 7) ≡ added 12 0
+  -- a product with either side below 0, and its extension
   pub below-0 : (product 134217727 1 ≡ 35184372088831) × (product 1 262143 ≡ 35184372088831)
   pub extends : extend 45 48 35184372088831 ≡ 281474976710655
   -- with no mask a word is the pattern, its complement, or neither
@@ -50,7 +73,7 @@ pub record Values : Type 0 where
   pub accepts : (adder 0 5 7 0 0 0 ≡ 12) × (adder 0 12 (ones 48) 10 1 12 ≡ 14)
 
 pub values : Values
-unfolding arithmetic lanes logicRows unitResult splitResult preAdder product load adder unmasked detected
+unfolding arithmetic lanes logicRows unitResult splitResult wrappedSum preAdder product load adder unmasked detected
 values =
     record {
       mode2 = refl;
@@ -69,6 +92,14 @@ values =
       lanes1 = refl;
       logic = (refl, refl);
       subtracts = refl;
+      over = (refl, refl);
+      under = (refl, refl);
+      lowest-turned = (refl, refl);
+      ends = (refl, refl, refl, refl);
+      sum-alone = (refl, refl);
+      difference-alone = (refl, refl);
+      carries = refl;
+      low-27 = refl;
       below-0 = (refl, refl);
       extends = refl;
       detects = (refl, refl, refl, refl, refl, refl);

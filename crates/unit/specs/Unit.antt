@@ -5,8 +5,10 @@ use mathlib.Core.Bool.{Bool, cond, not, _&&_, _||_}
 use mathlib.Core.List.{[], _∷_}
 use lib.Dec.{ltb, leb, eqb}
 use lib.Bits.{bitAnd, bitOr, bitXor}
-use lib.IntN.{pos, _+ℤ_, _-ℤ_, _*ℤ_}
+use lib.IntN.{ℤ, pos, negℤ, _+ℤ_, _-ℤ_, _*ℤ_}
+use lib.Signed.{leZ}
 use Rattle.word.specs.Word.{word, signed}
+use Rattle.unit.specs.declared.PreAdded.{PreAdded}
 use Rattle.unit.specs.Choice.{mux, choose}
 
 -- w bits, all ones
@@ -74,9 +76,23 @@ unfoldable pub splitResult : (simd mode w x y z cin : ℕ) → ℕ
 splitResult simd mode w x y z cin =
     cond (ltb mode 4) (lanes (laneWidth simd) (laneCount simd) mode w x y z cin) (unitResult mode w x y z cin)
 
--- Pre-adder: d + a, or d − a where subtract is not 0, modulo 2 ^ 27
-unfoldable pub preAdder : (subtract d a : ℕ) → ℕ
-preAdder subtract d a = mux subtract (word 27 (pos (d + a))) (word 27 (pos d -ℤ pos a))
+-- Pre-adder: d + a, or d − a where subtract is not 0, modulo 2 ^ w
+unfoldable pub wrappedSum : (w subtract d a : ℕ) → ℕ
+wrappedSum w subtract d a = mux subtract (word w (pos (d + a))) (word w (pos d -ℤ pos a))
+
+-- "the true sum or difference" (02, Ask 4): of both sides read as signed numbers of w bits
+abbrev pub trueSum : (w subtract d a : ℕ) → ℤ
+trueSum w zero d a = signed w d +ℤ signed w a
+trueSum w (suc _) d a = signed w d -ℤ signed w a
+
+-- 1 where z left lowest to highest, else 0
+abbrev pub beyond : (lowest highest z : ℤ) → ℕ
+beyond lowest highest z = cond (leZ lowest z && leZ z highest) 0 1
+
+-- "the 27-bit result and whether the true sum or difference left −67108864 to 67108863" (02, Ask 4)
+unfoldable pub preAdder : (subtract d a : ℕ) → PreAdded
+preAdder subtract d a =
+    record { ad = wrappedSum 27 subtract d a; wrap = beyond (negℤ (pos 67108864)) (pos 67108863) (trueSum 27 subtract d a) }
 
 -- Multiplier: 27 bits by 18, read as two's complement; the product is exact in 45 bits
 unfoldable pub product : (left right : ℕ) → ℕ

@@ -4,7 +4,7 @@ ghost use mathlib.Core.Path.{_≡_};
 ghost use mathlib.Core.Bool.{cond};
 ghost use Prim.Native.Nat.{_<_, _^_};
 ghost use Rattle.word.specs.Word.{extend};
-ghost use Rattle.unit.specs.Unit.{byY, lanes, laneWidth, laneCount, logicRows, unitResult, splitResult, preAdder, product, load, within, forbidden, adder};
+ghost use Rattle.unit.specs.Unit.{byY, lanes, laneWidth, laneCount, logicRows, unitResult, splitResult, trueSum, preAdder, product, load, within, forbidden, adder};
 ghost use Rattle.unit.specs.Detector.{detected};
 
 mod arithmetic;
@@ -87,14 +87,33 @@ pub fn in_lanes(simd: u64, mode: u64, w: u64, x: u64, y: u64, z: u64, cin: u64) 
     }
 }
 
-// The pre-adder: d + a, or d - a where `subtract` is not 0, modulo 2^27.
-pub fn pre_adder(subtract: u64, d: u64, a: u64) -> u64
+// What the pre-adder makes: the 27-bit result, and whether the true sum or difference left the range of 27 bits.
+pub struct PreAdded {
+    pub ad: u64,
+    pub wrap: u64,
+}
+
+// d + a, or d - a where `subtract` is not 0, of both sides read as signed 27-bit numbers.
+fn true_sum(subtract: u64, d: u64, a: u64) -> i64
+    ensures { λ r. ⌜ r ≡ trueSum 27 subtract d a ⌝ }
+{
+    let left = word::signed_of(d, 27);
+    let right = word::signed_of(a, 27);
+    if subtract == 0 {
+        left + right
+    } else {
+        left - right
+    }
+}
+
+// The pre-adder. It does not saturate: the result is the true sum or difference modulo 2^27, and the mark tells where that is another.
+pub fn pre_adder(subtract: u64, d: u64, a: u64) -> PreAdded
     ensures { λ r. ⌜ r ≡ preAdder subtract d a ⌝ }
 {
-    if subtract == 0 {
-        std::num::wrapping_add_u64(d, a) % 0x800_0000
-    } else {
-        std::num::wrapping_sub_u64(d, a) % 0x800_0000
+    let sum = true_sum(subtract, d, a);
+    PreAdded {
+        ad: word::word_of(sum, 27),
+        wrap: one_if(!((-67108864 <= sum) & (sum <= 67108863))),
     }
 }
 

@@ -8,8 +8,8 @@ use lib.Arith.{digits-div}
 use lib.Pow.{pow-pos, pow-add}
 use lib.IntN.{ℤ, pos, negsuc, _+ℤ_, _-ℤ_, _*ℤ_, subℕ, negℤ}
 use lib.Signed.{shrZ, mag}
-use Rattle.word.specs.Word.{modulo, word}
-use Rattle.word.proofs.Laws.{cases, word-lt}
+use Rattle.word.specs.Word.{modulo, word, signed}
+use Rattle.word.proofs.Laws.{cases, word-lt, word-signed}
 
 -- ---- what an integer adds and what it takes off
 
@@ -68,6 +68,9 @@ add-sub (pos a) (pos b) = pos-sub (a + b)
 add-sub (pos a) (negsuc b) = sub-eq a (suc b) (a + 0) (0 + suc b) (omega arith)
 add-sub (negsuc a) (pos b) = sub-eq b (suc a) (0 + b) (suc a + 0) (omega arith)
 add-sub (negsuc a) (negsuc b) = negsuc-sub (suc (a + b)) ∙ sub-eq 0 (suc (suc (a + b))) 0 (suc a + suc b) (omega arith)
+
+add-parts : (y z : ℤ) → up (y +ℤ z) + (down y + down z) ≡ up y + up z + down (y +ℤ z)
+add-parts y z = parts (y +ℤ z) (up y + up z) (down y + down z) (add-sub y z)
 
 pub neg-sub : (n : ℕ) → negℤ (pos n) ≡ subℕ 0 n
 neg-sub zero = refl
@@ -189,12 +192,69 @@ word-add w y z =
     (omega (arith, modulo-split (2 ^ w) (pow-pos w) y, modulo-split (2 ^ w) (pow-pos w) z))
     ∙ ap (word w) (sym (add-sub y z))
 
+-- integers that differ by multiples of 2 ^ w leave the same word
+pub word-same : (w : ℕ) (y z : ℤ) (p q : ℕ) → up y + down z + p * 2 ^ w ≡ up z + down y + q * 2 ^ w → word w y ≡ word w z
+word-same w y z p q e =
+    sym
+    (sym (mod-eq-of-lt (word-lt w z))
+    ∙ modulo-sub (2 ^ w) (pow-pos w) (up y) (down y) (word w z) (over (2 ^ w) z + q) (under (2 ^ w) z + p)
+    (omega (arith, modulo-split (2 ^ w) (pow-pos w) z))
+    ∙ ap (word w) (sym (as-sub y)))
+
 -- a multiple of 2 ^ w leaves no trace
 pub word-multiple : (w : ℕ) (y z : ℤ) → word w (y *ℤ pos (2 ^ w) +ℤ z) ≡ word w z
 word-multiple w y z =
-    sym
-    (sym (mod-eq-of-lt (word-lt w z))
-    ∙ modulo-sub (2 ^ w) (pow-pos w) (up y * 2 ^ w + up z) (down y * 2 ^ w + down z) (word w z)
-    (over (2 ^ w) z + up y) (under (2 ^ w) z + down y)
-    (omega (arith, modulo-split (2 ^ w) (pow-pos w) z))
-    ∙ ap (word w) (sym (mul-add-sub y z (2 ^ w))))
+    word-same w (y *ℤ pos (2 ^ w) +ℤ z) z (down y) (up y)
+    (omega (arith, parts (y *ℤ pos (2 ^ w) +ℤ z) (up y * 2 ^ w + up z) (down y * 2 ^ w + down z) (mul-add-sub y z (2 ^ w))))
+
+-- ---- words read as signed numbers, added and taken off, leave what the patterns leave
+
+up-neg : (z : ℤ) → up (negℤ z) ≡ down z
+up-neg (pos zero) = refl
+up-neg (pos (suc n)) = refl
+up-neg (negsuc n) = refl
+
+down-neg : (z : ℤ) → down (negℤ z) ≡ up z
+down-neg (pos zero) = refl
+down-neg (pos (suc n)) = refl
+down-neg (negsuc n) = refl
+
+module _ (w d a : ℕ) where
+  abbrev m : ℕ
+  m = 2 ^ w
+
+  -- how many 2 ^ w a number and its reading are apart: so many off the number, and so many on
+  abbrev off : (n : ℕ) → ℕ
+  off n = n / m + under m (signed w n)
+
+  abbrev on : (n : ℕ) → ℕ
+  on n = over m (signed w n)
+
+  apart : (n : ℕ) → up (signed w n) + off n * m ≡ n + down (signed w n) + on n * m
+  apart n = omega (arith, div-add-mod' n m, word-signed w n, modulo-split m (pow-pos w) (signed w n))
+
+  pub sum-word : word w (signed w d +ℤ signed w a) ≡ word w (pos (d + a))
+  sum-word =
+      word-same w y (pos (d + a)) (off d + off a) (on d + on a) (omega (arith, apart d, apart a, add-parts (signed w d) (signed w a)))
+    where
+      y : ℤ
+      y = signed w d +ℤ signed w a
+
+  pub difference-word : word w (signed w d -ℤ signed w a) ≡ word w (pos d -ℤ pos a)
+  difference-word =
+      word-same w y z (off d + on a) (on d + off a)
+      (omega (
+        arith,
+        apart d,
+        apart a,
+        up-neg (signed w a),
+        down-neg (signed w a),
+        add-parts (signed w d) (negℤ (signed w a)),
+        parts z d a (minus d a),
+      ))
+    where
+      y : ℤ
+      y = signed w d -ℤ signed w a
+
+      z : ℤ
+      z = pos d -ℤ pos a

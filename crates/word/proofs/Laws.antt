@@ -5,10 +5,10 @@ use Prim.Native.Nat.{ℕ, zero, suc, _+_, _-_, _*_, _/_, _%_, _^_, _≤_, _<_}
 use native.Mathlib.Nat.{le-refl, le-trans, mul-le-mul, pow-suc, mod-lt, mod-eq-of-lt}
 use native.Mathlib.Omega.{arith}
 use borrow.Author.Tests.{lt-ltb, le-ltb, ltb-true, ltb-false}
-use lib.Dec.{ltb}
-use lib.Pow.{pow-pos, pow-add, pow-mono}
-use lib.IntN.{ℤ, pos, negsuc, _+ℤ_, _*ℤ_, negℤ}
-use lib.Signed.{shrZ, mag}
+use lib.Dec.{ltb, leb, leb·suc-suc}
+use lib.Pow.{pow-pos, pow-add, pow-mono, suc-ones}
+use lib.IntN.{ℤ, pos, negsuc, _+ℤ_, _-ℤ_, _*ℤ_, negℤ}
+use lib.Signed.{leZ, shrZ, mag}
 use mir.Syntax.{Width}
 use mir.Val.{SFits, hbits}
 use Rattle.word.specs.Word.{word, halved, signed, extend}
@@ -27,6 +27,10 @@ pub same-test : (s t : Bool) → (s ≡ true → t ≡ true) → (t ≡ true →
 same-test true t f g = sym (f refl)
 same-test false true f g = g refl
 same-test false false f g = refl
+
+pub and-true : (b : Bool) → b && true ≡ b
+and-true true = refl
+and-true false = refl
 
 -- two tests that both hold
 pub both-true : (a b : Bool) → a && b ≡ true → (a ≡ true) × (b ≡ true)
@@ -54,9 +58,36 @@ signed-small w n = cases (λ z. mag z * 2 < 2 ^ w) (n % 2 ^ w * 2) (2 ^ w) (λ l
 pub signed-range : (w n : ℕ) → 0 < w → suc (mag (signed w n)) * 2 ≤ 2 ^ w
 signed-range (suc w) n h = omega (arith, signed-small (suc w) n, pow-suc 2 w)
 
+-- a word's pattern is the low bits of what it reads as
+pub word-signed : (w n : ℕ) → word w (signed w n) ≡ n % 2 ^ w
+word-signed w n =
+    cases (λ z. word w z ≡ n % 2 ^ w) (n % 2 ^ w * 2) (2 ^ w)
+    (λ l. mod-eq-of-lt (mod-lt n (pow-pos w)))
+    (λ l.
+    ap (λ (x : ℕ). 2 ^ w - suc x) (mod-eq-of-lt (omega (arith, mod-lt n (pow-pos w))))
+    ∙ omega (arith, mod-lt n (pow-pos w)))
+
 -- so it fits every machine width that has as many bits
 pub signed-fits : (w n : ℕ) {v : Width} → w ≤ suc (hbits v) → SFits v (signed w n)
 signed-fits w n {v} h = record { sfits = omega (arith, signed-small w n, pow-mono h, pow-suc 2 (hbits v)) }
+
+-- the range of v bits and a sign, by its two ends
+pub in-range : (v : ℕ) (z : ℤ) → leZ (negℤ (pos (2 ^ v))) z && leZ z (pos (2 ^ v - 1)) ≡ ltb (mag z) (2 ^ v)
+in-range v z = ap (λ (n : ℕ). leZ (negℤ (pos n)) z && leZ z (pos (2 ^ v - 1))) (sym (suc-ones v)) ∙ by z
+  where
+    within : (n : ℕ) → leb n (2 ^ v - 1) ≡ ltb n (2 ^ v)
+    within n = sym (leb·suc-suc n (2 ^ v - 1)) ∙ ap (leb (suc n)) (suc-ones v)
+
+    by : (z : ℤ) → leZ (negsuc (2 ^ v - 1)) z && leZ z (pos (2 ^ v - 1)) ≡ ltb (mag z) (2 ^ v)
+    by (pos n) = within n
+    by (negsuc n) = and-true (leb n (2 ^ v - 1)) ∙ within n
+
+-- exactly an integer in that range is read back
+pub read-back : (v : ℕ) (z : ℤ) → mag z < 2 ^ v → signed (suc v) (word (suc v) z) ≡ z
+read-back v z h = signed-word (suc v) z (omega (arith, pow-suc 2 v))
+
+pub only-in-range : (v : ℕ) (z : ℤ) → signed (suc v) (word (suc v) z) ≡ z → mag z < 2 ^ v
+only-in-range v z e = omega (arith, ap mag e, signed-small (suc v) (word (suc v) z), pow-suc 2 v)
 
 -- an integer in the range of v bits leaves the same word of w bits by way of its word of v bits
 pub extend-word : (v w : ℕ) (z : ℤ) → suc (mag z) * 2 ≤ 2 ^ v → extend v w (word v z) ≡ word w z
@@ -67,6 +98,18 @@ extend-word v w z h = ap (word w) (signed-word v z h)
 pub mag-add-pos : (z : ℤ) (b : ℕ) → mag (z +ℤ pos b) ≤ mag z + b
 mag-add-pos (pos a) b = omega arith
 mag-add-pos (negsuc a) b = cases (λ y. mag y ≤ a + b) b (suc a) (λ l. omega arith) (λ l. omega arith)
+
+pub mag-add : (y z : ℤ) → mag (y +ℤ z) ≤ suc (mag y + mag z)
+mag-add (pos a) (pos b) = omega arith
+mag-add (pos a) (negsuc b) = cases (λ x. mag x ≤ suc (a + b)) a (suc b) (λ l. omega arith) (λ l. omega arith)
+mag-add (negsuc a) (pos b) = cases (λ x. mag x ≤ suc (a + b)) b (suc a) (λ l. omega arith) (λ l. omega arith)
+mag-add (negsuc a) (negsuc b) = omega arith
+
+pub mag-difference : (y z : ℤ) → mag (y -ℤ z) ≤ suc (mag y + mag z)
+mag-difference y (pos zero) = mag-add y (pos zero)
+mag-difference y (pos (suc b)) = omega (arith, mag-add y (negsuc b))
+mag-difference (pos a) (negsuc b) = omega arith
+mag-difference (negsuc a) (negsuc b) = cases (λ x. mag x ≤ suc (a + b)) (suc b) (suc a) (λ l. omega arith) (λ l. omega arith)
 
 pub mag-shr-is : (z : ℤ) (m : ℕ) → mag (shrZ z m) ≡ mag z / m
 mag-shr-is (pos a) m = refl

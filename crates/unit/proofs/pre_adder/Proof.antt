@@ -1,25 +1,37 @@
--- `unit::pre_adder` meets its contract: 2 ^ 27 divides 2 ^ 64. Assumes nothing.
-use Prim.Native.Nat.{_+_}
-use native.Mathlib.Omega.{arith}
-use lib.Pow.{mod-mod-pow}
+-- `unit::pre_adder` meets its contract: the result is the true sum's word, and the test is the definition's. Assumes nothing.
+use mathlib.Core.Path.{_≡_, refl, ap, _∙_}
+use mathlib.Core.Bool.{Bool, true, false, cond, not, _&&_}
+use Prim.Native.Nat.{ℕ}
 use borrow.Author.Needs.{needs}
-use Rattle.unit.specs.Unit.{preAdder}
-use Rattle.word.proofs.Wrapped.{difference-wraps}
-use Rattle.unit.proofs.Laws.{mux-1}
+use lib.IntN.{ℤ, pos, negℤ}
+use lib.Signed.{leZ}
+use mir.Syntax.{w64}
+use mir.Val.{toZ, ofZ}
+use Rattle.word.specs.Word.{word}
+use Rattle.word.proofs.Steps.{held}
+use Rattle.unit.specs.Unit.{beyond, preAdder}
+use Rattle.unit.proofs.PreAdder.{wrapped-true, true-fits}
 use Rattle.unit.proofs.pre_adder.Statement.{statement}
 use Rattle.unit.proofs.pre_adder.Tie as tie
+
+-- 1 unless the number is in the range
+marks : (z : ℤ) → cond (not (leZ (negℤ (pos 67108864)) z && leZ z (pos 67108863))) 1 0 ≡ beyond (negℤ (pos 67108864)) (pos 67108863) z
+marks z = by (leZ (negℤ (pos 67108864)) z && leZ z (pos 67108863))
+  where
+    by : (b : Bool) → cond {A = ℕ} (not b) 1 0 ≡ cond b 0 1
+    by true = refl
+    by false = refl
 
 returns : tie.Need-returns
 unfolding preAdder
 returns c =
-    rw (c .before .if1 .taken, c .wrapping-add-u64 .ensures)
-    (mod-mod-pow (c .before .before .args .d + c .before .before .args .a) 37 27)
-
-returns-2 : tie.Need-returns-2
-unfolding preAdder
-returns-2 c =
-    rw (mux-1 (c .before .before .args .subtract) _ _ (c .before .if1 .left))
-    (difference-wraps 37 27 (c .wrapping-sub-u64 .result) (c .before .before .args .d) (c .before .before .args .a) (omega arith))
+    let a = c .before .before .before .args in
+    let sum = held w64 (c .before .before .true-sum .ensures) (true-fits (a .subtract) (a .d) (a .a)) in
+    λ i.
+    record {
+      ad = (c .before .word-of .ensures ∙ ap (word 27) sum ∙ wrapped-true 27 (a .subtract) (a .d) (a .a)) i;
+      wrap = (c .one-if .ensures ∙ marks (toZ w64 (ofZ w64 (c .before .before .true-sum .result))) ∙ ap (beyond (negℤ (pos 67108864)) (pos 67108863)) sum) i;
+    }
 
 pub pre-adder-spec : {M : Type 1} → statement M
-pre-adder-spec = tie.close (tie.spec (λ c κs. search needs) (λ c κs. search needs) returns returns-2)
+pre-adder-spec = tie.close (tie.spec (λ c κs. search needs) (λ c κs. search needs) (λ c κs. search needs) returns)

@@ -1,7 +1,9 @@
 -- `slice::edge::shown` meets its contract: each field is the definition's, a flag by way of the gate. Assumes nothing.
 use mathlib.Core.Path.{_≡_, refl, _∙_}
-use mathlib.Core.Bool.{Bool, true, false, cond, _&&_}
+use mathlib.Core.Bool.{Bool, true, false, cond, not, _&&_}
 use Prim.Native.Nat.{ℕ, zero, suc}
+use native.Mathlib.Omega.{arith}
+use borrow.Author.Tests.{ne-eqb}
 use lib.Dec.{eqb}
 use borrow.Author.Needs.{needs}
 use Rattle.unit.specs.Choice.{mux}
@@ -9,13 +11,13 @@ use Rattle.slice.specs.Slice.{strayed, outputsOfSettled}
 use Rattle.slice.proofs.edge.shown.Statement.{statement}
 use Rattle.slice.proofs.edge.shown.Tie as tie
 
--- PREG, PD and PBD first and the past word through them, or all at once
+-- PREG, PD and PBD first and the past word through them, or the past word first
 through-gate : (preg past pd pbd : ℕ)
-    → mux (mux preg 0 (cond (eqb pd 0 && eqb pbd 0) 1 0)) 0 (cond (eqb past 1) 1 0) ≡ mux preg 0 (strayed past pd pbd)
+    → cond ((not (eqb preg 0) && eqb pd 0 && eqb pbd 0) && eqb past 1) 1 0 ≡ mux preg 0 (strayed past pd pbd)
 through-gate zero past pd pbd = refl
-through-gate (suc preg) past pd pbd = by (eqb past 1) (eqb pd 0) (eqb pbd 0)
+through-gate (suc preg) past pd pbd = rw (ne-eqb (suc preg) 0 (λ e. omega arith)) (by (eqb past 1) (eqb pd 0) (eqb pbd 0))
   where
-    by : (s t u : Bool) → mux (cond (t && u) 1 0) 0 (cond s 1 0) ≡ cond (s && t && u) 1 0
+    by : (s t u : Bool) → cond {A = ℕ} ((t && u) && s) 1 0 ≡ cond (s && t && u) 1 0
     by true true true = refl
     by true true false = refl
     by true false u = refl
@@ -26,27 +28,19 @@ through-gate (suc preg) past pd pbd = by (eqb past 1) (eqb pd 0) (eqb pbd 0)
 returns : tie.Need-returns
 unfolding outputsOfSettled
 returns c =
-    let at-overflow = c .before .before .before in
-    let at-pbd = at-overflow .before .before .before in
-    let at-gate = at-pbd .before .before .before in
-    let start = at-gate .before .before .before .before .args in
-    let gate = rw (at-gate .before .pick .ensures) at (at-gate .mux .ensures) in
+    let at-overflow = c .before .before in
+    let at-pbd = at-overflow .before .before in
+    let start = at-pbd .before .before .before .before .before .before .args in
     λ i. record {
-      p = (at-pbd .before .before .mux2 .ensures) i;
-      patterndetect = (at-pbd .before .mux3 .ensures) i;
-      patternbdetect = (at-pbd .mux4 .ensures) i;
-      overflow =
-          (rw (gate, at-overflow .before .pick2 .ensures) at (at-overflow .mux5 .ensures)
-          ∙ through-gate (start .a .preg) (start .r .pdpast) (start .r .pd) (start .r .pbd))
-          i;
-      underflow =
-          (rw (gate, c .before .pick3 .ensures) at (c .mux6 .ensures)
-          ∙ through-gate (start .a .preg) (start .r .pbdpast) (start .r .pd) (start .r .pbd))
-          i;
+      p = (at-pbd .before .before .mux .ensures) i;
+      patterndetect = (at-pbd .before .mux2 .ensures) i;
+      patternbdetect = (at-pbd .mux3 .ensures) i;
+      overflow = (at-overflow .pick .ensures ∙ through-gate (start .a .preg) (start .r .pdpast) (start .r .pd) (start .r .pbd)) i;
+      underflow = (c .pick2 .ensures ∙ through-gate (start .a .preg) (start .r .pbdpast) (start .r .pd) (start .r .pbd)) i;
+      preaddwrap = start .t .wrap;
     }
 
 pub shown-spec : {M : Type 1} → statement M
 shown-spec =
     tie.close
-    (tie.spec (λ c κs. search needs) (λ c κs. search needs) (λ c κs. search needs) (λ c κs. search needs) (λ c κs. search needs)
-    (λ c κs. search needs) (λ c κs. search needs) (λ c κs. search needs) (λ c κs. search needs) returns)
+    (tie.spec (λ c κs. search needs) (λ c κs. search needs) (λ c κs. search needs) (λ c κs. search needs) (λ c κs. search needs) returns)
