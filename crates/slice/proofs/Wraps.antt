@@ -1,7 +1,6 @@
 -- What PREADDWRAP tells (02, Ask 4), of every slice, whatever its settings and registers: it is 0 exactly where what goes into AD, read as
 -- signed, is the true sum or difference of the pre-adder's two sides. Assumes nothing.
 use mathlib.Core.Path.{_≡_, refl, sym, ap, _∙_}
-use Prim.Native.Nat.{ℕ}
 use lib.IntN.{ℤ}
 use Rattle.word.specs.Word.{signed}
 use Rattle.unit.specs.Choice.{bit}

@@ -141,7 +141,7 @@ strayed past pd pbd = cond (eqb past 1 && eqb pd 0 && eqb pbd 0) 1 0
 
 -- With PREG 1 the outputs show registers P, PD, PBD; with 0, the settled values. OVERFLOW is PDPAST 1, UNDERFLOW is PBDPAST 1, each
 -- with PD and PBD both 0 (02, Ask 2), read from the registers; both 0 when PREG is 0. PREADDWRAP is the pre-adder's mark "as it settles
--- before AD" (02, Ask 4), whatever the registers
+-- before AD" (02, Ask 4), whatever ADREG and PREG are
 unfoldable pub outputsOfSettled : Attributes → Registers → Settled → Outputs
 outputsOfSettled a r t =
     record {

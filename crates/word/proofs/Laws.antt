@@ -58,7 +58,7 @@ signed-small w n = cases (λ z. mag z * 2 < 2 ^ w) (n % 2 ^ w * 2) (2 ^ w) (λ l
 pub signed-range : (w n : ℕ) → 0 < w → suc (mag (signed w n)) * 2 ≤ 2 ^ w
 signed-range (suc w) n h = omega (arith, signed-small (suc w) n, pow-suc 2 w)
 
--- a word's pattern is the low bits of what it reads as
+-- what a word reads as leaves the word's own bits
 pub word-signed : (w n : ℕ) → word w (signed w n) ≡ n % 2 ^ w
 word-signed w n =
     cases (λ z. word w z ≡ n % 2 ^ w) (n % 2 ^ w * 2) (2 ^ w)
