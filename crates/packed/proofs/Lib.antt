@@ -6,6 +6,7 @@ pub mod Trace
 pub mod Accepted
 pub mod Tops
 pub mod Theorem
+pub mod Unmarked
 pub mod Passing
 pub mod Stepping
 pub mod Agree

@@ -3,17 +3,18 @@
 use Prim.Native.Nat.{ℕ, zero, suc, _+_, _*_, _%_, _^_, _≤_, _<_}
 use native.Mathlib.Nat.{add-suc, add-zero, le-refl, le-trans, add-le-add, mul-le-mul}
 use native.Mathlib.Omega.{arith}
-use mathlib.Core.Path.{_≡_, refl, ap, ap₂, _∙_}
+use mathlib.Core.Path.{_≡_, refl, sym, ap, ap₂, _∙_}
 use mathlib.Core.List.{List}
 use lib.Dec.{lit<}
 use lib.ListN.{length, getD}
-use lib.IntN.{ℤ, pos, natAbs, _*ℤ_, +ℤ-comm}
-use lib.Signed.{natAbs-le}
-use Rattle.word.specs.Word.{word, extend, highSum, lowSum}
+use lib.IntN.{ℤ, pos, natAbs, _+ℤ_, _*ℤ_, +ℤ-comm}
+use lib.Signed.{mag, natAbs-le}
+use Rattle.word.specs.Word.{word, signed, extend, highSum, lowSum}
 use Rattle.word.proofs.Laws.{signed-word, extend-word}
 use Rattle.word.proofs.Integers.{word-add, word-foot}
 use Rattle.word.proofs.PackedWord.{packed, low-read, high-read}
-use Rattle.unit.specs.Unit.{wrappedSum, preAdder, product}
+use Rattle.unit.specs.Unit.{wrappedSum, trueSum, preAdder, product}
+use Rattle.unit.proofs.PreAdder.{pre-adder-exact}
 use Rattle.records.specs.Records.{outputWords}
 use Rattle.column.specs.declared.Answer.the-variants.{Accepted}
 use Rattle.column.specs.Refusals.{clockAnswer}
@@ -29,10 +30,11 @@ use Rattle.packed.proofs.Tops.{list-length, list-word}
 -- ---- one product
 
 module _ (a d b : ℤ) (ha : Byte a) (hd : Byte d) (hb : Byte b) where
+  multiple-size : natAbs (a *ℤ pos (2 ^ 18)) ≤ 2 ^ 7 * 2 ^ 18
+  multiple-size = natAbs-mul-le a (pos (2 ^ 18)) {n = 2 ^ 18} (natAbs-le a ha) (le-refl (2 ^ 18))
+
   pair-size : natAbs (packed a d) ≤ 2 ^ 25 + 2 ^ 7
-  pair-size =
-      le-trans (natAbs-add (a *ℤ pos (2 ^ 18)) d)
-      (add-le-add (natAbs-mul-le a (pos (2 ^ 18)) {n = 2 ^ 18} (natAbs-le a ha) (le-refl (2 ^ 18))) (natAbs-le d hd))
+  pair-size = le-trans (natAbs-add (a *ℤ pos (2 ^ 18)) d) (add-le-add multiple-size (natAbs-le d hd))
 
   product-size : natAbs (packed a d *ℤ b) ≤ (2 ^ 25 + 2 ^ 7) * 2 ^ 7
   product-size = natAbs-mul-le (packed a d) b pair-size (natAbs-le b hb)
@@ -45,13 +47,30 @@ module _ (a d b : ℤ) (ha : Byte a) (hd : Byte d) (hb : Byte b) where
       ∙ word-add 27 d (a *ℤ pos (2 ^ 18))
       ∙ ap (word 27) (+ℤ-comm d (a *ℤ pos (2 ^ 18)))
 
-  -- and the multiplier's, sign-extended, is its product with b
+  pair-fits : suc (mag (packed a d)) * 2 ≤ 2 ^ 27
+  pair-fits = let h = mag-lt (packed a d) {n = 2 ^ 26} pair-size (lit< tt) in omega arith
+
+  -- its mark is 0, since the pair is the true sum
+  pair-true : trueSum 27 0 (word 27 d) (word 30 (a *ℤ pos (2 ^ 18)) % 2 ^ 27) ≡ packed a d
+  pair-true =
+      ap₂ _+ℤ_ (signed-word 27 d (omega (arith, hd))) (ap (signed 27) (word-foot 3 27 (a *ℤ pos (2 ^ 18))) ∙ signed-word 27 (a *ℤ pos (2 ^ 18)) fits)
+      ∙ +ℤ-comm d (a *ℤ pos (2 ^ 18))
+    where
+      fits : suc (mag (a *ℤ pos (2 ^ 18))) * 2 ≤ 2 ^ 27
+      fits = let h = mag-lt (a *ℤ pos (2 ^ 18)) {n = 2 ^ 26} multiple-size (lit< tt) in omega arith
+
+  pub pair-unmarked : preAdder 0 (word 27 d) (word 30 (a *ℤ pos (2 ^ 18)) % 2 ^ 27) .wrap ≡ 0
+  pair-unmarked =
+      pre-adder-exact 0 (word 27 d) (word 30 (a *ℤ pos (2 ^ 18)) % 2 ^ 27) .1
+      (ap (signed 27) pre-added ∙ signed-word 27 (packed a d) pair-fits ∙ sym pair-true)
+
+  -- and the multiplier's word, sign-extended, is the pair's product with b
   multiplied : productWord a d b ≡ word 48 (packed a d *ℤ b)
   unfolding product
   multiplied =
       ap (λ (n : ℕ). extend 45 48 (product n (word 18 b))) pre-added
       ∙ ap₂ (λ (x y : ℤ). extend 45 48 (word 45 (x *ℤ y)))
-      (signed-word 27 (packed a d) (let h = mag-lt (packed a d) {n = 2 ^ 26} pair-size (lit< tt) in omega arith))
+      (signed-word 27 (packed a d) pair-fits)
       (signed-word 18 b (omega (arith, hb)))
       ∙ extend-word 45 48 (packed a d *ℤ b) (let h = mag-lt (packed a d *ℤ b) {n = 2 ^ 44} product-size (lit< tt) in omega arith)
 

@@ -12,7 +12,7 @@ use Rattle.unit.specs.Unit.{arithmetic, unitResult, preAdder, product, load}
 use Rattle.unit.proofs.Lanes.{one48}
 use Rattle.records.specs.declared.Registers.{Registers}
 use Rattle.slice.specs.declared.inputs.Cascade.{Cascade}
-use Rattle.records.specs.Records.{attributeWords, registerWords, portWords, outputWords, attributesWords, registersOf, registersWords, portsWords}
+use Rattle.records.specs.Records.{attributeWords, registerWords, portWords, outputWords, attributesWords, registersOf, registersWords, portsWords, outputsWords}
 use Rattle.slice.specs.Slice.{controlsOf, selectsOf, pathsOf, aSide, dSide, preAddedOf, leftOf, rightOf, productOf, operandsOf, sliceOperands, resultOf, settledOf, sliceSettled, outputsOfSettled, cascadeOf, edge, nextOf, sliceOutputs, sliceCascade, sliceNext}
 use Rattle.column.specs.Column.{stretch, stacked, cascadeInto, shownAt, nextAt, columnShown, columnNext, after}
 use Rattle.column.proofs.Stacks.{stacked-ext, stacked-zeros, stretch-stacked}
@@ -74,18 +74,21 @@ module _ (g : Batch) where
   four-on t k =
       one48 0 0 (productWord (fed g (g .a) t k) (fed g (g .d) t k) (fed g (g .b) t k)) 0 (below (trace (suc (suc (suc t)))) k .p) 0
 
-  -- slice k shows its register P
-  shows : (t k : ℕ) → k < g .terms → getD (shownAt (runAttributes (g .terms)) (traced t) (runPorts g t) k) 0 0 ≡ trace t k .p
-  unfolding shownAt sliceOutputs outputsOfSettled
-  shows t k h = rw (attributes-part (g .terms) k h, registers-part t k h)
+  -- what slice k shows in clock t
+  shows : (t k : ℕ) → k < g .terms
+      → shownAt (runAttributes (g .terms)) (traced t) (runPorts g t) k ≡ outputsWords (sliceOutputs setting (trace t k) (slicePorts g t k) (below (trace t) k))
+  unfolding shownAt
+  shows t k h = rw (attributes-part (g .terms) k h, registers-part t k h, ports-part t k h, from-below t k (le-of-lt h))
 
-  -- and the top slice's is what a slice above it would get
+  pub shown-slice : (t k : ℕ) → k < g .terms
+      → stretch outputWords k (columnShown (g .terms) (runAttributes (g .terms)) (runRegisters g t) (runPorts g t))
+      ≡ outputsWords (sliceOutputs setting (trace t k) (slicePorts g t k) (below (trace t) k))
+  unfolding columnShown
+  shown-slice t k h = rw (registers t) (stretch-stacked (shownAt _ _ _) outputWords (shown-length _ _ _) k (g .terms) h ∙ shows t k h)
+
+  -- P is its register's, and the top slice's is what a slice above it would get
   pub top-shows : (t : ℕ) → 1 ≤ g .terms → top g t ≡ below (trace t) (g .terms) .p
-  unfolding top columnShown
+  unfolding top sliceOutputs outputsOfSettled
   top-shows t some =
       let last = g .terms - 1 in
-      let within : last < g .terms = omega arith in
-      rw (registers t)
-      (ap (λ (ws : List ℕ). getD ws 0 0) (stretch-stacked (shownAt _ _ _) outputWords (shown-length _ _ _) last (g .terms) within)
-      ∙ shows t last within
-      ∙ sym (above-last (trace t) (g .terms) some))
+      ap (λ (ws : List ℕ). getD ws 0 0) (shown-slice t last (omega arith)) ∙ sym (above-last (trace t) (g .terms) some)
