@@ -1,6 +1,7 @@
 -- What PREADDWRAP tells (02, Ask 4), of every slice, whatever its settings and registers: it is 0 exactly where what goes into AD, read as
 -- signed, is the true sum or difference of the pre-adder's two sides. Assumes nothing.
-use mathlib.Core.Path.{_≡_, refl, sym, ap, _∙_}
+use mathlib.Core.Path.{_≡_, refl, sym, subst}
+use Prim.Native.Nat.{ℕ}
 use lib.IntN.{ℤ}
 use Rattle.word.specs.Word.{signed}
 use Rattle.unit.specs.Choice.{bit}
@@ -30,22 +31,20 @@ module _ (a : Attributes) (r : Registers) (p : Ports) (x : Cascade) where
   unfolding sliceOutputs outputsOfSettled sliceSettled settledOf productOf
   mark-settles = refl
 
-  pub unmarked-true : sliceOutputs a r p x .preaddwrap ≡ 0 → signed 27 (sliceSettled a r p x .ad) ≡ trueAd
-  unfolding sliceOutputs outputsOfSettled sliceSettled settledOf productOf preAddedOf
-  unmarked-true e = pre-adder-exact (bit (k .inmode) 3) (dSide k s) (aSide r k s) .0 e
+  -- it is 0 exactly where this 27-bit word, read as signed, is the true sum or difference
+  abbrev pub Marks : (ad : ℕ) → Type 0
+  Marks ad =
+      (sliceOutputs a r p x .preaddwrap ≡ 0 → signed 27 ad ≡ trueAd) × (signed 27 ad ≡ trueAd → sliceOutputs a r p x .preaddwrap ≡ 0)
 
-  pub true-unmarked : signed 27 (sliceSettled a r p x .ad) ≡ trueAd → sliceOutputs a r p x .preaddwrap ≡ 0
+  -- so it marks what goes into AD
+  pub mark-exact : Marks (sliceSettled a r p x .ad)
   unfolding sliceOutputs outputsOfSettled sliceSettled settledOf productOf preAddedOf
-  true-unmarked e = pre-adder-exact (bit (k .inmode) 3) (dSide k s) (aSide r k s) .1 e
+  mark-exact = pre-adder-exact (bit (k .inmode) 3) (dSide k s) (aSide r k s)
 
-  -- so where AD loads, the register after the edge is right exactly where this clock shows no mark
+  -- and, where AD loads, the register after the edge
   ad-loads : bit (p .rst) 3 ≡ 0 → bit (p .ce) 6 ≡ 1 → sliceNext a r p x .ad ≡ sliceSettled a r p x .ad
   unfolding sliceNext nextOf edge load
   ad-loads reset enable = rw (reset, enable)
 
-  pub loaded-true : bit (p .rst) 3 ≡ 0 → bit (p .ce) 6 ≡ 1
-      → (sliceOutputs a r p x .preaddwrap ≡ 0 → signed 27 (sliceNext a r p x .ad) ≡ trueAd)
-      × (signed 27 (sliceNext a r p x .ad) ≡ trueAd → sliceOutputs a r p x .preaddwrap ≡ 0)
-  loaded-true reset enable =
-      let same = ad-loads reset enable in
-      (λ e. ap (signed 27) same ∙ unmarked-true e, λ e. true-unmarked (ap (signed 27) (sym same) ∙ e))
+  pub loaded-exact : bit (p .rst) 3 ≡ 0 → bit (p .ce) 6 ≡ 1 → Marks (sliceNext a r p x .ad)
+  loaded-exact reset enable = subst Marks (sym (ad-loads reset enable)) mark-exact

@@ -209,15 +209,10 @@ word-multiple w y z =
 
 -- ---- words read as signed numbers, added and taken off, leave what the patterns leave
 
-up-neg : (z : ℤ) → up (negℤ z) ≡ down z
-up-neg (pos zero) = refl
-up-neg (pos (suc n)) = refl
-up-neg (negsuc n) = refl
-
-down-neg : (z : ℤ) → down (negℤ z) ≡ up z
-down-neg (pos zero) = refl
-down-neg (pos (suc n)) = refl
-down-neg (negsuc n) = refl
+neg-parts : (z : ℤ) → (up (negℤ z) ≡ down z) × (down (negℤ z) ≡ up z)
+neg-parts (pos zero) = (refl, refl)
+neg-parts (pos (suc n)) = (refl, refl)
+neg-parts (negsuc n) = (refl, refl)
 
 module _ (w d a : ℕ) where
   abbrev m : ℕ
@@ -247,8 +242,8 @@ module _ (w d a : ℕ) where
         arith,
         apart d,
         apart a,
-        up-neg (signed w a),
-        down-neg (signed w a),
+        neg-parts (signed w a) .0,
+        neg-parts (signed w a) .1,
         add-parts (signed w d) (negℤ (signed w a)),
         parts z d a (minus d a),
       ))
