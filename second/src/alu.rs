@@ -44,26 +44,29 @@ pub fn settle(mode: AluMode, lanes: Lanes, operands: Operands) -> i64 {
 fn one_lane(mode: AluMode, operands: Operands) -> i64 {
     let Operands { w, x, y, z, carry } = operands;
     let others = w + x + y + i64::from(carry);
-    match mode {
+    // Y is 0 or all ones in a logic mode; another, which cannot come here, counts as all ones.
+    match (mode, y == 0) {
         // In two's complement, all ones less a word is the word's complement,
         // whatever the width.
-        AluMode::Sum => z + others,
-        AluMode::SumWithNotZ => !z + others,
-        AluMode::NotSum => !(z + others),
-        AluMode::Difference => z - others,
-        // The logic unit is the adder's cell: its sum bit and its carry bit.
-        AluMode::Xor => x ^ y ^ z,
-        AluMode::Xnor => !(x ^ y ^ z),
-        AluMode::And => majority(x, y, z),
-        AluMode::AndNot => majority(x, y, !z),
-        AluMode::Nand => !majority(x, y, z),
-        AluMode::NandNot => !majority(x, y, !z),
+        (AluMode::Sum, _) => z + others,
+        (AluMode::SumWithNotZ, _) => !z + others,
+        (AluMode::NotSum, _) => !(z + others),
+        (AluMode::Difference, _) => z - others,
+        // The rows of Y 0, as 01 lists them.
+        (AluMode::Xor, true) => x ^ z,
+        (AluMode::Xnor, true) => !(x ^ z),
+        (AluMode::And, true) => x & z,
+        (AluMode::AndNot, true) => x & !z,
+        (AluMode::Nand, true) => !(x & z),
+        (AluMode::NandNot, true) => !x | z,
+        // The rows of Y all ones.
+        (AluMode::Xor, false) => !(x ^ z),
+        (AluMode::Xnor, false) => x ^ z,
+        (AluMode::And, false) => x | z,
+        (AluMode::AndNot, false) => x | !z,
+        (AluMode::Nand, false) => !(x | z),
+        (AluMode::NandNot, false) => !x & z,
     }
-}
-
-/// Bit by bit: `and` of the outer two when y is 0, `or` when y is ones.
-fn majority(x: i64, y: i64, z: i64) -> i64 {
-    x & y | y & z | x & z
 }
 
 /// The call of the bench: six plain numbers in, one returned word out.

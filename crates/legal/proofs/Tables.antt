@@ -1,14 +1,12 @@
 -- The quick test's tables, masks and bounds are their rules: each is compared with its rule at every number. A table is a parameter: the
 -- code's own is compared where it is used. Assumes nothing.
 use mathlib.Core.Path.{_≡_, refl, sym, ap, _∙_}
-use mathlib.Core.Logic.{⊎-elim}
 use mathlib.Core.Bool.{Bool, true, false, not, _&&_, _||_}
 use mathlib.Core.List.{[], _∷_}
 use Prim.Native.Nat.{ℕ, zero, suc, _+_, _*_, _/_, _%_, _^_, _<_}
-use native.Mathlib.Nat.{eq-or-lt-of-le, le-of-suc-le-suc, not-suc-le-zero}
 use lib.Dec.{eqb, leb, ltb}
 use lib.Bits.{bitAnd, bitOr}
-use Rattle.word.proofs.Laws.{both-true}
+use Rattle.word.proofs.Every.{every, every-at, every-at-2}
 use Rattle.records.specs.declared.Attributes.{Attributes}
 use Rattle.records.specs.Records.{attributesOf}
 use Rattle.unit.specs.Choice.{bit}
@@ -16,8 +14,6 @@ use Rattle.slice.specs.declared.inputs.Controls.{Controls}
 use Rattle.slice.specs.declared.inputs.Selects.{Selects}
 use Rattle.slice.specs.Slice.{selectsOf}
 use Rattle.legal.specs.Legal.{listed, splitFits, badInmode, badOpmode, badAlumode, badCarryinsel}
-
--- ---- a test at every number below n
 
 -- two tests agree
 abbrev agree : Bool → Bool → Bool
@@ -28,22 +24,6 @@ agreed : (a b : Bool) → agree a b ≡ true → a ≡ b
 agreed true b p = sym p
 agreed false true p = p
 agreed false false p = refl
-
-abbrev every : (n : ℕ) → (ℕ → Bool) → Bool
-every zero f = true
-every (suc n) f = every n f && f n
-
-every-at : (n : ℕ) (f : ℕ → Bool) → every n f ≡ true → (i : ℕ) → i < n → f i ≡ true
-every-at zero f p i h = absurd (not-suc-le-zero h)
-every-at (suc n) f p i h =
-    let q = both-true (every n f) (f n) p in
-    ⊎-elim
-    (λ (e : i ≡ n). rw e (q .1))
-    (λ (l : i < n). every-at n f (q .0) i l)
-    (eq-or-lt-of-le (le-of-suc-le-suc h))
-
-every-at-2 : (n m : ℕ) (f : ℕ → ℕ → Bool) → every n (λ i. every m (f i)) ≡ true → (i j : ℕ) → i < n → j < m → f i j ≡ true
-every-at-2 n m f p i j h g = every-at m (f i) (every-at n (λ i. every m (f i)) p i h) j g
 
 -- ---- the tables, masks and bounds, each against its rule
 

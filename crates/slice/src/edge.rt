@@ -158,7 +158,8 @@ fn loaded(a: Attributes, r: Registers, p: Ports, s: Paths, t: Settled) -> Regist
     next(a, r, p, s, t)
 }
 
-// One slice in one clock. What it shows and hands up is read before the registers load.
+// One slice in one clock. What it shows and hands up is of `r`, the registers before the edge; in this order the compiled clock is
+// cheapest.
 pub fn stepped(a: Attributes, r: Registers, p: Ports, x: Cascade) -> Step
     ensures { λ v. ⌜ v ≡ stepOf a r p x ⌝ }
 {
@@ -168,8 +169,8 @@ pub fn stepped(a: Attributes, r: Registers, p: Ports, x: Cascade) -> Step
     let o = selected(a, r, k, s, x, mux(a.mreg, t.m, r.m));
     let result = unit::split_result(a.use_simd, k.alumode, o.w, o.x, o.y, o.z, o.cin);
     let v = settled_from(a, t, result);
-    let shown = shown(a, r, v);
     let next = loaded(a, r, p, s, v);
+    let shown = shown(a, r, v);
     let up = handed_up(a, r, s, shown.p);
     Step {
         next: next,

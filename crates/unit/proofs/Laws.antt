@@ -1,7 +1,7 @@
 -- Which input a choice shows, that choices keep a bound, and the width of what each part gives. Assumes nothing.
 use Prim.Native.Nat.{ℕ, zero, suc, _+_, _-_, _%_, _^_, _<_}
 use mathlib.Core.Path.{_≡_, refl}
-use native.Mathlib.Nat.{mod-lt}
+use native.Mathlib.Nat.{mod-lt, zero-lt-suc}
 use native.Mathlib.Omega.{arith}
 use mathlib.Core.Bool.{Bool, true, false, cond}
 use mathlib.Core.List.{List, [], _∷_}
@@ -55,6 +55,9 @@ pub choose-off : {s n : ℕ} {xs : List ℕ} (k : ℕ) → n + k ≡ s → Off 0
 choose-off k e off = getD-off k e off
 
 -- ---- widths
+
+pub digit-lt : (n : ℕ) → n % 2 < 2
+digit-lt n = mod-lt n (zero-lt-suc 1)
 
 pub arithmetic-lt : (width mode w x y z cin : ℕ) → arithmetic width mode w x y z cin < 2 ^ width
 unfolding arithmetic

@@ -5,3 +5,5 @@ pub mod Masks
 pub mod PreAdder
 pub mod Unique
 pub mod Values
+pub mod Gates
+pub mod Drawing

@@ -11,10 +11,7 @@ use lib.Dec.{eqb, lit<}
 use lib.Pow.{pow-pos}
 use lib.Bits.{bitOr, bitXor, or-step, xor-shr, xor-mod}
 use Rattle.unit.specs.Detector.{unmasked, equal, differs}
-use Rattle.unit.proofs.Laws.{cond-lt}
-
-digit-lt : (n : ℕ) → n % 2 < 2
-digit-lt n = mod-lt n (zero-lt-suc 1)
+use Rattle.unit.proofs.Laws.{cond-lt, digit-lt}
 
 -- numbers are equal when their digits are
 eqb-digits : (a b c d : ℕ) → c < 2 → d < 2 → eqb (a * 2 + c) (b * 2 + d) ≡ eqb c d && eqb a b

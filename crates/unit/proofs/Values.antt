@@ -30,6 +30,9 @@ pub record Values : Type 0 where
   pub mode13 : (row 13 0 ≡ 4) × (row 13 (ones 48) ≡ 281474976710653)
   pub mode14 : (row 14 0 ≡ 281474976710647) × (row 14 (ones 48) ≡ 281474976710641)
   pub mode15 : (row 15 0 ≡ 281474976710651) × (row 15 (ones 48) ≡ 2)
+  -- modes that are refused give 0, whatever their bits are; a Y that is refused is as one of all ones
+  pub no-row : (row 8 0 ≡ 0) × (row 11 (ones 48) ≡ 0) × (row 16 0 ≡ 0) × (row 20 (ones 48) ≡ 0) × (row 28 0 ≡ 0)
+  pub other-y : (row 12 1 ≡ 14) × (row 4 (2 ^ 63) ≡ 281474976710649)
   -- the lanes of USE_SIMD: TWO24 with X all ones and Y 1, whose low lane wraps to 0 (or to CIN) and leaves the high lane all ones; ONE48
   -- carries on
   pub two24 : (splitResult 1 0 0 (ones 48) 1 0 0 ≡ 16777215 * 2 ^ 24) × (splitResult 1 0 0 (ones 48) 1 0 1 ≡ 16777215 * 2 ^ 24 + 1)
@@ -86,6 +89,8 @@ values =
       mode13 = (refl, refl);
       mode14 = (refl, refl);
       mode15 = (refl, refl);
+      no-row = (refl, refl, refl, refl, refl);
+      other-y = (refl, refl);
       two24 = (refl, refl, refl);
       four12 = refl;
       lanes2 = refl;

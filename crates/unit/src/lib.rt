@@ -2,12 +2,12 @@
 // of a register; and the C bench's adder. Every function takes every number, and reads as many low bits as it is wide.
 ghost use mathlib.Core.Path.{_≡_};
 ghost use mathlib.Core.Bool.{cond};
-ghost use Prim.Native.Nat.{_<_, _^_};
 ghost use Rattle.word.specs.Word.{extend};
-ghost use Rattle.unit.specs.Unit.{byY, lanes, laneWidth, laneCount, logicRows, unitResult, splitResult, trueSum, preAdder, product, load, within, forbidden, adder};
+ghost use Rattle.unit.specs.Unit.{lanes, laneWidth, laneCount, unitResult, splitResult, trueSum, preAdder, product, load, within, forbidden, adder};
 ghost use Rattle.unit.specs.Detector.{detected};
 
 mod arithmetic;
+mod logic;
 
 const ONES: u64 = 0xffff_ffff_ffff;
 
@@ -17,32 +17,6 @@ pub struct Detected {
     pub pbd: u64,
 }
 
-fn by_y(y: u64, a: u64, b: u64) -> u64
-    ensures { λ r. ⌜ r ≡ byY y a b ⌝ }
-{
-    if y == 0 { a } else { b }
-}
-
-// Logic modes, of 48-bit words x and z: the definition's rows.
-fn logic_of(mode: u64, x: u64, y: u64, z: u64) -> u64
-    requires { ⌜ (x < 2 ^ 48) × (z < 2 ^ 48) × (3 < mode) ⌝ }
-    ensures { λ r. ⌜ r ≡ logicRows mode x y z ⌝ }
-{
-    let differ = x ^ z;
-    let same = ONES - differ;
-    match mode {
-        4 => by_y(y, differ, same),
-        5 => by_y(y, same, differ),
-        6 => by_y(y, same, differ),
-        7 => by_y(y, differ, same),
-        12 => by_y(y, x & z, x | z),
-        13 => by_y(y, x & (ONES - z), x | (ONES - z)),
-        14 => by_y(y, ONES - (x & z), ONES - (x | z)),
-        15 => by_y(y, (ONES - x) | z, (ONES - x) & z),
-        _ => 0,
-    }
-}
-
 // The adder and logic unit, in one piece.
 fn result(mode: u64, w: u64, x: u64, y: u64, z: u64, cin: u64) -> u64
     ensures { λ r. ⌜ r ≡ unitResult mode w x y z cin ⌝ }
@@ -50,7 +24,7 @@ fn result(mode: u64, w: u64, x: u64, y: u64, z: u64, cin: u64) -> u64
     if mode < 4 {
         arithmetic::lane(48, mode, w, x, y, z, cin)
     } else {
-        logic_of(mode, x % 0x1_0000_0000_0000, y, z % 0x1_0000_0000_0000)
+        logic::formula(mode, x % 0x1_0000_0000_0000, y, z % 0x1_0000_0000_0000)
     }
 }
 
@@ -142,9 +116,10 @@ pub fn detect(p: u64, pattern: u64, mask: u64) -> Detected
     ensures { λ r. ⌜ r ≡ detected p pattern mask ⌝ }
 {
     let differ = (p ^ pattern) % 0x1_0000_0000_0000;
+    // In this order the compiled clock is cheapest.
     Detected {
-        pd: one_if(differ | mask == mask),
         pbd: one_if((ONES - differ) | mask == mask),
+        pd: one_if(differ | mask == mask),
     }
 }
 

@@ -1,4 +1,5 @@
 pub mod Laws
+pub mod Every
 pub mod Integers
 pub mod Wrapped
 pub mod Steps

@@ -13,9 +13,9 @@ returns c =
     let a = c .before .before .args in
     λ i.
     record {
-      pd = (c .before .one-if .ensures ∙ ap (λ (b : Bool). cond b 1 0) (hides-differing 48 (a .p) (a .pattern) (a .mask))) i;
-      pbd = (c .one-if2 .ensures ∙ ap (λ (b : Bool). cond b 1 0) (hides-equal 48 (a .p) (a .pattern) (a .mask))) i;
+      pd = (c .one-if2 .ensures ∙ ap (λ (b : Bool). cond b 1 0) (hides-differing 48 (a .p) (a .pattern) (a .mask))) i;
+      pbd = (c .before .one-if .ensures ∙ ap (λ (b : Bool). cond b 1 0) (hides-equal 48 (a .p) (a .pattern) (a .mask))) i;
     }
 
 pub detect-spec : {M : Type 1} → statement M
-detect-spec = tie.close (tie.spec (λ c κs. search needs) (λ c. search needs) (λ c κs. search needs) returns)
+detect-spec = tie.close (tie.spec (λ c. search needs) (λ c κs. search needs) (λ c κs. search needs) returns)

@@ -12,7 +12,7 @@ returns c = rw (lt-ltb (c .before .before .args .mode) 4 (omega arith)) (c .lane
 
 returns-2 : tie.Need-returns-2
 unfolding unitResult
-returns-2 c = rw (le-ltb (c .before .before .args .mode) 4 (omega arith)) (c .logic-of .ensures)
+returns-2 c = rw (le-ltb (c .before .before .args .mode) 4 (omega arith)) (c .formula .ensures)
 
 pub result-spec : {M : Type 1} → statement M
 result-spec = tie.close (tie.spec (λ c κs. search needs) (λ c κs. search needs) returns returns-2)

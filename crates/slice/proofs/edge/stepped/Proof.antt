@@ -29,9 +29,9 @@ returns c =
     let settled = settles at-settled in
     let routed = at-settled .before .before .before .before .before .routed .ensures in
     λ i. record {
-      next = (rw (settled, routed) at (c .before .loaded .ensures)) i;
-      shown = (rw settled at (c .before .before .shown .ensures)) i;
-      up = (rw (c .before .before .shown .ensures, settled, routed) at (c .handed-up .ensures)) i;
+      next = (rw (settled, routed) at (c .before .before .loaded .ensures)) i;
+      shown = (rw settled at (c .before .shown .ensures)) i;
+      up = (rw (c .before .shown .ensures, settled, routed) at (c .handed-up .ensures)) i;
     }
 
 pub stepped-spec : {M : Type 1} → statement M
