@@ -1,15 +1,14 @@
 // The logic modes, as one formula.
 ghost use mathlib.Core.Path.{_≡_};
 ghost use mathlib.Core.Bool.{cond};
-ghost use Prim.Native.Nat.{_-_, _<_, _^_};
+ghost use Prim.Native.Nat.{_<_, _^_};
 ghost use lib.Bits.{bitAnd, bitOr, bitXor};
-ghost use Rattle.unit.specs.Unit.{logicRows};
-
-const ONES: u64 = 0xffff_ffff_ffff;
+ghost use Rattle.unit.specs.Unit.{ones, logicRows};
+use crate::ONES;
 
 // Every bit of 48, or none.
 fn all_if(b: bool) -> u64
-    ensures { λ r. ⌜ r ≡ cond b (2 ^ 48 - 1) 0 ⌝ }
+    ensures { λ r. ⌜ r ≡ cond b (ones 48) 0 ⌝ }
 {
     if b { ONES } else { 0 }
 }
