@@ -149,7 +149,7 @@ second-tests:
 compare-long: build/answer dspcol-built
 	DSPCOL='$(DSPCOL)' CALLS=build/answer compare/long $(MINUTES)
 
-# Each slip of the old model, planted in a copy of the product: the comparison must find it.
+# Each slip of compare/planted/, planted in a copy of the product: the comparison must find it.
 planted:
 	scripts/planted
 

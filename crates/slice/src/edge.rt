@@ -158,8 +158,8 @@ fn loaded(a: Attributes, r: Registers, p: Ports, s: Paths, t: Settled) -> Regist
     next(a, r, p, s, t)
 }
 
-// One slice in one clock. What it shows and hands up is of `r`, the registers before the edge; in this order the compiled clock is
-// cheapest.
+// One slice in one clock. What it shows and hands up is of `r`, the registers before the edge. Of the orders of work that were tried,
+// this one makes the cheapest clock.
 pub fn stepped(a: Attributes, r: Registers, p: Ports, x: Cascade) -> Step
     ensures { λ v. ⌜ v ≡ stepOf a r p x ⌝ }
 {

@@ -116,7 +116,7 @@ pub fn detect(p: u64, pattern: u64, mask: u64) -> Detected
     ensures { λ r. ⌜ r ≡ detected p pattern mask ⌝ }
 {
     let differ = (p ^ pattern) % 0x1_0000_0000_0000;
-    // In this order the compiled clock is cheapest.
+    // Of the two orders this one makes the cheaper clock.
     Detected {
         pbd: one_if((ONES - differ) | mask == mask),
         pd: one_if(differ | mask == mask),
