@@ -307,44 +307,6 @@ static void adder(void)
     expect(dsp_adder(1, 0, 0, 0, 0, 4) == DSP_REFUSED + 8 && dsp_adder(0, 0, 1, 0, 0, 4) == DSP_REFUSED + 8, "a logic mode with W 1, or Y 1");
 }
 
-/* ---- the packed runs by hand */
-
-static int8_t high[DSP_MOST_ROWS * DSP_MOST_TERMS], low[DSP_MOST_ROWS * DSP_MOST_TERMS], right[DSP_MOST_ROWS * DSP_MOST_TERMS];
-static int32_t answers[2 * DSP_MOST_ROWS + 1], other_answers[2 * DSP_MOST_ROWS + 1];
-static uint64_t list[DSP_PACKED_CLOCKS(DSP_MOST_TERMS, DSP_MOST_ROWS) + 1], other_list[DSP_PACKED_CLOCKS(DSP_MOST_TERMS, DSP_MOST_ROWS) + 1];
-
-static uint64_t clocked(uint64_t terms, uint64_t rows, size_t n, size_t sums, size_t clocks)
-{
-    answers[sums] = 1234567;
-    list[clocks] = GUARD;
-    uint64_t word = dsp_packed_clocked(terms, rows, high, n, low, n, right, n, answers, sums, list, clocks);
-    expect(answers[sums] == 1234567 && list[clocks] == GUARD, "a run writes no word beside those lent");
-    return word;
-}
-
-static void packed_by_hand(void)
-{
-    high[0] = 1, low[0] = -1, right[0] = 1;
-    expect(clocked(1, 1, 1, 2, 5) == 5 && list[4] == 262143 && answers[0] == 1 && answers[1] == -1, "the row (1, -1, 1)");
-    memset(high, -128, 7);
-    memset(low, -128, 7);
-    memset(right, -128, 7);
-    expect(clocked(7, 1, 7, 2, 11) == 11 && answers[0] == 114688 && answers[1] == 114688, "seven terms all -128");
-    answers[0] = 5;
-    list[0] = 6;
-    expect_refusal(clocked(8, 1, 8, 2, 12), DSP_BAD_TERMS, 0, "8 terms");
-    expect_refusal(clocked(0, 0, 0, 2, 3), DSP_BAD_TERMS, 0, "0 terms, before 0 rows");
-    expect_refusal(clocked(7, 0, 0, 2, 10), DSP_BAD_ROWS, 0, "0 rows");
-    expect_refusal(clocked(7, DSP_MOST_ROWS + 1, 7, 2, 11), DSP_BAD_ROWS, 0, "4,097 rows");
-    expect_refusal(clocked(UINT64_MAX, UINT64_MAX, 7, 2, 11), DSP_BAD_TERMS, 0, "2^64 - 1 terms");
-    expect_refusal(clocked(1, UINT64_MAX, 7, 2, 11), DSP_BAD_ROWS, 0, "2^64 - 1 rows");
-    expect_refusal(clocked(7, 1, 6, 2, 11), DSP_BAD_LENGTH, 0, "a row one number short");
-    expect_refusal(clocked(7, 1, 7, 3, 11), DSP_BAD_LENGTH, 0, "an answer too many");
-    expect_refusal(clocked(7, 1, 7, 2, 10), DSP_BAD_LENGTH, 0, "a list word too few");
-    expect_refusal(dsp_packed_plain(1, 1, NULL, 0, NULL, 0, NULL, 0, NULL, 0), DSP_BAD_LENGTH, 0, "no numbers at all");
-    expect(answers[0] == 5 && list[0] == 6, "a refused run writes nothing");
-}
-
 /* ---- random calls, answered twice */
 
 static uint64_t state;
@@ -358,8 +320,7 @@ uint64_t draw(void)
     return z ^ (z >> 31);
 }
 
-/* A word of some width: a boundary, or any; one in a thousand is past the width. */
-static uint64_t draw_word(unsigned width)
+uint64_t draw_word(unsigned width)
 {
     uint64_t top = UINT64_C(1) << (width - 1), all = top * 2 - 1;
     switch (draw() % 8) {
@@ -482,22 +443,6 @@ static void random_adder(void)
     expect(dsp_adder(w, x, y, z, cin, mode) == column_adder(w, x, y, z, cin, mode), "the archive and the model add alike");
 }
 
-static void random_packed(uint64_t terms, uint64_t rows)
-{
-    size_t n = (size_t)(rows * terms), sums = (size_t)(2 * rows), clocks = (size_t)DSP_PACKED_CLOCKS(terms, rows);
-    for (size_t i = 0; i < n; i++) {
-        high[i] = (int8_t)(uint8_t)draw_word(8);
-        low[i] = (int8_t)(uint8_t)draw_word(8);
-        right[i] = (int8_t)(uint8_t)draw_word(8);
-    }
-    expect(clocked(terms, rows, n, sums, clocks) == clocks, "the clocks are rows + terms + 3");
-    expect(column_packed(terms, rows, high, n, low, n, right, n, other_answers, sums, other_list, clocks) == clocks, "the model's clocks");
-    expect(memcmp(answers, other_answers, sums * sizeof answers[0]) == 0, "the same answers");
-    expect(memcmp(list, other_list, clocks * sizeof list[0]) == 0, "the same list");
-    expect(dsp_packed_plain(terms, rows, high, n, low, n, right, n, other_answers, sums) == 0, "the plain run");
-    expect(memcmp(answers, other_answers, sums * sizeof answers[0]) == 0, "the plain run's answers");
-}
-
 static void by_hand(void)
 {
     heights();
@@ -536,10 +481,7 @@ int main(int argc, char **argv)
     printf("slices in accepted clocks: %lu of one lane, %lu of two, %lu of four\n", accepted_in[0], accepted_in[1], accepted_in[2]);
     expect(accepted_in[1] * 20 > calls && accepted_in[2] * 20 > calls, "an accepted slice in lanes for every 20 random clocks");
     tell_preaddwraps(calls);
-    for (uint64_t terms = 1; terms <= DSP_MOST_TERMS; terms++)
-        for (uint64_t rows = 1; rows <= DSP_MOST_ROWS; rows *= 8)
-            random_packed(terms, rows);
-    printf("packed: 1 to 7 terms, 1 to 4,096 rows, 0 differences\n");
+    random_packed_runs();
     random_whys(calls);
     return 0;
 }

@@ -42,6 +42,9 @@ uint64_t clock_of(uint64_t count);
 
 uint64_t draw(void);
 
+/* A word of some width: a boundary, or any; one in a thousand is past the width. */
+uint64_t draw_word(unsigned width);
+
 /* A random column, mostly legal; returns its slices. */
 size_t draw_column(void);
 
@@ -49,6 +52,10 @@ size_t draw_column(void);
 void preaddwrap_by_hand(void);
 void count_preaddwraps(size_t count);
 void tell_preaddwraps(unsigned long clocks);
+
+/* bench/packed.c: the packed runs by hand, and random ones. */
+void packed_by_hand(void);
+void random_packed_runs(void);
 
 /* bench/why.c: dsp_why by hand, and so many random calls of it. */
 void why_by_hand(void);

@@ -3,6 +3,7 @@
  *
  *   benchmark time [BLOCKS]                                  the tables, from BLOCKS blocks of each side a row
  *   benchmark count archive|plain|kit packed|random SLICES CLOCKS   so many clocks and nothing else, for a counter of instructions
+ *   benchmark count-runs archive|plain|kit clocked|plain TERMS ROWS random|nearly RUNS   so many packed runs, likewise
  *
  * With KIT_SIDE a third side is linked: the model again, by the kit's compiler, its functions named kit_... The sides run in
  * one process, a block of each in turn, and each of them is first in turn, so that what else the machine does falls on all.
@@ -210,8 +211,10 @@ static double plain_block(int side)
 
 static void packed_rows(void)
 {
-    for (size_t wide = 1; wide <= DSP_MOST_TERMS; wide += 3)
+    static const size_t widths[] = { 1, 4, 7, 8 };
+    for (size_t i = 0; i < sizeof widths / sizeof widths[0]; i++)
         for (size_t tall = 1; tall <= DSP_MOST_ROWS; tall *= 16) {
+            size_t wide = widths[i];
             draw_rows(wide, tall, 4096);
             struct row clocked = measure(clocked_block, (double)(repeats * DSP_PACKED_CLOCKS(wide, tall) * wide));
             draw_rows(wide, tall, 65536);
@@ -223,7 +226,7 @@ static void packed_rows(void)
         }
 }
 
-/* ---- the two commands */
+/* ---- the commands */
 
 static int side_of(const char *name)
 {
@@ -257,14 +260,45 @@ static void count_one(char **words)
         run_scene(&scenes[i], side, clocks / scene_count);
 }
 
+/* Every d and every b -128, but the last b of each row: what a look for overfull rows has to look at whole. */
+static void nearly_overfull(void)
+{
+    memset(low, -128, terms * rows);
+    memset(right, -128, terms * rows);
+    for (size_t row = 0; row < rows; row++)
+        right[(row + 1) * terms - 1] = -127;
+}
+
+/* So many runs of random rows, or of nearly overfull ones. */
+static void count_runs(char **words)
+{
+    int side = side_of(words[0]), clocked = strcmp(words[1], "clocked") == 0;
+    size_t wide = strtoul(words[2], NULL, 10), tall = strtoul(words[3], NULL, 10);
+    if (wide < 1 || wide > DSP_MOST_TERMS || tall < 1 || tall > DSP_MOST_ROWS)
+        fail("1 to 8 terms, 1 to 4096 rows");
+    draw_rows(wide, tall, 0);
+    if (strcmp(words[4], "nearly") == 0)
+        nearly_overfull();
+    repeats = strtoul(words[5], NULL, 10);
+    if (clocked)
+        clocked_block(side);
+    else
+        plain_block(side);
+}
+
 int main(int argc, char **argv)
 {
     if (argc == 6 && strcmp(argv[1], "count") == 0) {
         count_one(argv + 2);
         return 0;
     }
+    if (argc == 8 && strcmp(argv[1], "count-runs") == 0) {
+        count_runs(argv + 2);
+        return 0;
+    }
     if (argc < 2 || argc > 3 || strcmp(argv[1], "time") != 0)
-        fail("time [BLOCKS], or count archive|plain|kit packed|random SLICES CLOCKS");
+        fail("time [BLOCKS], count archive|plain|kit packed|random SLICES CLOCKS, "
+             "or count-runs archive|plain|kit clocked|plain TERMS ROWS random|nearly RUNS");
     if (argc == 3)
         blocks = strtoul(argv[2], NULL, 10);
     if (blocks < 1 || blocks > MOST_BLOCKS)

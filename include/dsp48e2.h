@@ -7,7 +7,7 @@
  * zeros in the place of its answer.
  *
  * A refusal is DSP_REFUSED + 256 * place + number in the returned word, and nothing else is that large; the place is the
- * lowest slice that fails the check of that number.
+ * lowest slice that fails the check of that number, and of number 14 the lowest row.
  */
 #ifndef DSP48E2_H
 #define DSP48E2_H
@@ -25,10 +25,11 @@ extern "C" {
  * refused by number 2. Major 1 had 21 attributes a slice, major 2 has 22. Major 3 has the counts of major 2, and other
  * OVERFLOW and UNDERFLOW: a P that swings through 0 within its range shows neither any more. Version 3.1 adds dsp_why with
  * its enums, and number 13; what 3.0 has is as it was. Major 4 has 6 outputs a slice, where there were 5: PREADDWRAP is the
- * last, and what 3.1 has is as it was.
+ * last, and what 3.1 has is as it was. Version 4.1 takes packed runs of 8 terms, which 4.0 refused by number 10, and adds
+ * number 14 for the rows of 8 terms that do not fit; every other call is answered as it was.
  */
 #define DSP_VERSION_MAJOR 4
-#define DSP_VERSION_MINOR 0
+#define DSP_VERSION_MINOR 1
 
 /* The refusal rule, and what takes a refusal apart. */
 #define DSP_REFUSED (UINT64_C(1) << 48)
@@ -48,13 +49,14 @@ enum dsp_number {
     DSP_BAD_OPMODE = 7,     /* OPMODE in effect is forbidden */
     DSP_BAD_ALUMODE = 8,    /* ALUMODE in effect is forbidden */
     DSP_BAD_CARRYINSEL = 9, /* CARRYINSEL in effect is forbidden */
-    DSP_BAD_TERMS = 10,     /* packed run: terms not 1 to 7 */
+    DSP_BAD_TERMS = 10,     /* packed run: terms not 1 to 8 */
     DSP_BAD_ROWS = 11,      /* packed run: rows not 1 to 4,096 */
-    DSP_BAD_SLICE = 13      /* the asked slice is at or above the count */
+    DSP_BAD_SLICE = 13,     /* the asked slice is at or above the count */
+    DSP_OVERFULL_ROW = 14   /* packed run of 8 terms: a row, which is the place, has all d and all b -128 */
 };
 
 #define DSP_MOST_SLICES 24
-#define DSP_MOST_TERMS 7
+#define DSP_MOST_TERMS 8
 #define DSP_MOST_ROWS 4096
 
 /* A slice's attributes: its settings. */
@@ -306,7 +308,9 @@ uint64_t dsp_clear(uint64_t count, uint64_t *registers, size_t registers_length)
  * The packed run, clock by clock. Lent: three arrays of rows * terms signed 8-bit numbers, row by row; 2 * rows answers,
  * the high sum (of a * b) then the low sum (of d * b) of each row; and a list of DSP_PACKED_CLOCKS(terms, rows) words.
  * Returns the clocks it stepped, and leaves the top P of each clock in list and every row's exact sums in answers; or a
- * refusal at place 0, numbers 10, 11 and 2 in that order.
+ * refusal: numbers 10, 11 and 2 in that order, at place 0, then 14, whose place is the lowest overfull row. A row is
+ * overfull where it has 8 terms, and all its d and all its b are -128: its low sum would be 131072, one more than the 18
+ * bits of P that hold it can tell. Every other row of 1 to 8 terms fits.
  */
 uint64_t dsp_packed_clocked(uint64_t terms, uint64_t rows,
                             const int8_t *a, size_t a_length,

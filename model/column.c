@@ -595,7 +595,7 @@ uint64_t column_why(uint64_t count,
 
 /* ---- the packed run ---- */
 
-#define TERMS_MOST 7
+#define TERMS_MOST 8
 #define ROWS_MOST 4096
 #define PACKED_DELAY 3
 
@@ -609,6 +609,26 @@ static uint64_t check_packed(uint64_t terms, uint64_t rows, size_t a_length, siz
     if (a_length != rows * terms || d_length != rows * terms || b_length != rows * terms ||
         answers_length != 2 * rows)
         return refusal(2, 0);
+    return 0;
+}
+
+static int all_lowest(const int8_t *numbers, uint64_t count)
+{
+    while (count > 0 && numbers[count - 1] == -128)
+        count--;
+    return count == 0;
+}
+
+/* Eight times -128 by -128 is 2^17, one more than the low field holds; no other row leaves it. */
+static uint64_t check_rows(uint64_t terms, uint64_t rows, const int8_t *d, const int8_t *b)
+{
+    uint64_t row;
+
+    if (terms < TERMS_MOST)
+        return 0;
+    for (row = 0; row < rows; row++)
+        if (all_lowest(d + row * terms, terms) && all_lowest(b + row * terms, terms))
+            return refusal(14, row);
     return 0;
 }
 
@@ -648,6 +668,9 @@ uint64_t column_packed(uint64_t terms, uint64_t rows,
     clocks = rows + terms + PACKED_DELAY;
     if (list_length != clocks)
         return refusal(2, 0);
+    refused = check_rows(terms, rows, d, b);
+    if (refused)
+        return refused;
     memset(rg, 0, sizeof rg);
     for (clock = 0; clock < clocks; clock++) {
         struct cascade cas = { 0, 0, 0 };
@@ -676,6 +699,8 @@ uint64_t column_plain(uint64_t terms, uint64_t rows,
     uint64_t row, term, refused;
 
     refused = check_packed(terms, rows, a_length, d_length, b_length, answers_length);
+    if (!refused)
+        refused = check_rows(terms, rows, d, b);
     if (refused)
         return refused;
     for (row = 0; row < rows; row++) {

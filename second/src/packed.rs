@@ -23,6 +23,9 @@ struct Run<'a> {
     triples: Triples<'a>,
 }
 
+/// The most terms a run can have, and the fewest that can overfill the low field (02, Ask 6).
+const MOST_TERMS: u64 = 8;
+
 /// How long a word needs from the first slice's ports to the top P.
 const DELAY: usize = 3;
 
@@ -63,8 +66,18 @@ pub fn read_sums(p: i64) -> (i32, i32) {
     (high as i32, low as i32)
 }
 
+/// Every check in its order; a row can be found once the sizes are right.
 fn judge(triples: Triples, answers: usize, list: Option<usize>) -> Result<Run, Refusal> {
-    if !(1..=7).contains(&triples.terms) {
+    let run = sized(triples, answers, list)?;
+    match (0..run.rows).find(|row| run.overfills_low(*row)) {
+        Some(lowest) => Err(Refusal::at(Reason::LowSum, lowest as u64)),
+        None => Ok(run),
+    }
+}
+
+/// The run whose memory has the right sizes.
+fn sized(triples: Triples, answers: usize, list: Option<usize>) -> Result<Run, Refusal> {
+    if !(1..=MOST_TERMS).contains(&triples.terms) {
         return Err(Refusal::whole(Reason::Terms));
     }
     if !(1..=4096).contains(&triples.rows) {
@@ -81,6 +94,13 @@ fn judge(triples: Triples, answers: usize, list: Option<usize>) -> Result<Run, R
 }
 
 impl Run<'_> {
+    /// Tells whether a row has all eight d and all eight b equal to -128 (02, Ask 6).
+    /// Its low sum would be 131072, and no other leaves the 18 bits of the low field.
+    fn overfills_low(&self, row: usize) -> bool {
+        let lowest = |term| matches!(self.triple(row, term), (_, -128, -128));
+        self.triples.terms == MOST_TERMS && (0..self.terms).all(lowest)
+    }
+
     fn triple(&self, row: usize, term: usize) -> (i64, i64, i64) {
         let at = row * self.terms + term;
         (self.triples.a[at].into(), self.triples.d[at].into(), self.triples.b[at].into())

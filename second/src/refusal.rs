@@ -16,9 +16,10 @@ pub enum Reason {
     Rows = 11,
     Line = 12,
     Slice = 13,
+    LowSum = 14,
 }
 
-/// A reason and the place it was met: a slice, or a line for `Line`.
+/// A reason and the place it was met: a slice, a line for `Line`, or a row for `LowSum`.
 #[derive(Clone, Copy, Debug, PartialEq, Eq)]
 pub struct Refusal {
     pub reason: Reason,
@@ -26,7 +27,7 @@ pub struct Refusal {
 }
 
 impl Refusal {
-    /// For the reasons that belong to no slice.
+    /// For the reasons that belong to no place.
     pub const fn whole(reason: Reason) -> Self {
         Refusal { reason, place: 0 }
     }

@@ -1,5 +1,6 @@
 //! A test or more for each number from 0 to 12, 12 through a listing and all others
-//! through the calls; 13 is `why`'s alone and stands with its tests.
+//! through the calls; 13 is `why`'s alone and 14 that of eight terms, and both stand with
+//! their tests.
 
 mod one_slice;
 
@@ -257,7 +258,7 @@ fn number_09_carryinsel() {
 
 #[test]
 fn number_10_terms() {
-    for terms in ["0", "8", "18446744073709551615"] {
+    for terms in ["0", "9", "18446744073709551615"] {
         assert_eq!(
             answer(&format!("packed {terms} 0 0 0 0 0 0")).unwrap(),
             "281474976710666 0 0 0 0 0"

@@ -1,10 +1,11 @@
-//! Calls as lines of text: adder, clock, clear, packed and plain runs; why is in `why_calls`.
+//! Calls as lines of text: adder, clock and clear; runs are in `packed_calls`, why in `why_calls`.
 
 use std::io::{self, Write};
 
 use crate::draw::{self, height, Menu, LOGIC_MODES};
 use crate::faults::{all, Fault};
 use crate::oracle::Controls;
+use crate::packed_calls;
 use crate::random::Random;
 use crate::why_calls;
 use crate::words::*;
@@ -27,14 +28,14 @@ pub fn write(out: &mut impl Write, random: &mut Random, count: u64) -> io::Resul
     sweep_faults(out, random)?;
     sweep_lanes(out, random)?;
     wrap_calls::sweep(out, random)?;
-    sweep_packed(out, random)?;
+    packed_calls::sweep(out, random)?;
     why_calls::sweep(out, random)?;
     for _ in 0..count {
         match random.below(23) {
             0..=3 => random_adder(out, random)?,
             4..=15 => any_clock(random).write(out)?,
             16 => random_clear(out, random)?,
-            17..=19 => random_packed(out, random)?,
+            17..=19 => packed_calls::any(random).write(out)?,
             _ => why_calls::any(random).write(out)?,
         }
     }
@@ -315,123 +316,4 @@ fn random_clear(out: &mut impl Write, random: &mut Random) -> io::Result<()> {
     let count = random.within(0, 25);
     let words: Vec<u64> = (0..count * 18).map(|_| random.word()).collect();
     writeln!(out, "clear {count} {}", stretch(&words))
-}
-
-/// The stretches of a packed run, all of their right lengths.
-struct Packed {
-    terms: u64,
-    rows: u64,
-    triples: [Vec<i8>; 3],
-    answers: Vec<i32>,
-    list: Vec<u64>,
-}
-
-impl Packed {
-    fn of(
-        random: &mut Random,
-        terms: u64,
-        rows: u64,
-        mut draw: impl FnMut(&mut Random) -> i8,
-    ) -> Packed {
-        let mut array = |random: &mut Random| (0..terms * rows).map(|_| draw(random)).collect();
-        Packed {
-            terms,
-            rows,
-            triples: [array(random), array(random), array(random)],
-            answers: (0..2 * rows).map(|_| random.word() as i32).collect(),
-            list: (0..rows + terms + 3).map(|_| random.word()).collect(),
-        }
-    }
-
-    /// Writes the clocked run and the plain one of the same stretches.
-    fn write(&self, out: &mut impl Write) -> io::Result<()> {
-        let Packed { terms, rows, triples, answers, list } = self;
-        let [a, d, b] = [0, 1, 2].map(|i: usize| stretch(&triples[i]));
-        let answers = stretch(answers);
-        writeln!(out, "packed {terms} {rows} {a} {d} {b} {answers} {}", stretch(list))?;
-        writeln!(out, "plain {terms} {rows} {a} {d} {b} {answers}")
-    }
-
-    /// Makes one of the five stretches a word too short, too long, or empty.
-    fn misjudge(&mut self, which: u64, how: u64) {
-        let length = |right: usize| [right - 1, right + 1, 0][how as usize];
-        match which {
-            0..=2 => {
-                let array = &mut self.triples[which as usize];
-                array.resize(length(array.len()), 1);
-            }
-            3 => self.answers.resize(length(self.answers.len()), 1),
-            _ => self.list.resize(length(self.list.len()), 1),
-        }
-    }
-}
-
-fn any_byte(random: &mut Random) -> i8 {
-    random.word() as i8
-}
-
-fn edge_byte(random: &mut Random) -> i8 {
-    random.pick(&[-128, 127, 0, 1, -1])
-}
-
-fn sweep_packed(out: &mut impl Write, random: &mut Random) -> io::Result<()> {
-    for (terms, rows) in [(0, 1), (8, 1), (1, 0), (1, 4097), (0, 0), (8, 4097)] {
-        Packed::of(random, terms, rows, any_byte).write(out)?;
-    }
-    for huge in [9, 256, 257, 1 << 32, (1 << 32) + 1, 1 << 63, u64::MAX] {
-        for (terms, rows) in [(huge, 1), (1, huge.max(1 << 13)), (huge, huge)] {
-            writeln!(out, "packed {terms} {rows} 1 1 1 1 1 1 2 5 5 5 6 6 6 6 6")?;
-            writeln!(out, "plain {terms} {rows} 1 1 1 1 1 1 2 5 5")?;
-        }
-    }
-    for terms in 1..=7 {
-        for value in [-128, 127, 0, 1, -1] {
-            Packed::of(random, terms, 2, |_| value).write(out)?;
-        }
-        for rows in [1, 2, 3, 8, 9] {
-            Packed::of(random, terms, rows, any_byte).write(out)?;
-            Packed::of(random, terms, rows, edge_byte).write(out)?;
-            for which in 0..5 {
-                for how in 0..3 {
-                    let mut packed = Packed::of(random, terms, rows, any_byte);
-                    packed.misjudge(which, how);
-                    packed.write(out)?;
-                }
-            }
-        }
-    }
-    for (terms, rows) in [(1, 4096), (7, 4096), (7, 4095)] {
-        Packed::of(random, terms, rows, any_byte).write(out)?;
-    }
-    every_single_product(out)
-}
-
-/// All products of two bytes in one column, high and low alike.
-fn every_single_product(out: &mut impl Write) -> io::Result<()> {
-    for part in 0..16 {
-        let pairs = (0..4096).map(|i| part * 4096 + i);
-        let left: Vec<i8> = pairs.clone().map(|pair| (pair >> 8) as i8).collect();
-        let right: Vec<i8> = pairs.map(|pair| (pair & 255) as i8).collect();
-        let other: Vec<i8> = left.iter().rev().copied().collect();
-        let packed = Packed {
-            terms: 1,
-            rows: 4096,
-            triples: [left, other, right],
-            answers: vec![0; 8192],
-            list: vec![0; 4100],
-        };
-        packed.write(out)?;
-    }
-    Ok(())
-}
-
-fn random_packed(out: &mut impl Write, random: &mut Random) -> io::Result<()> {
-    let (terms, rows) = (random.within(1, 7), random.within(1, 24));
-    let draw = if random.percent(50) { any_byte } else { edge_byte };
-    let mut packed = Packed::of(random, terms, rows, draw);
-    if random.percent(10) {
-        let (which, how) = (random.below(5), random.below(3));
-        packed.misjudge(which, how);
-    }
-    packed.write(out)
 }

@@ -12,7 +12,9 @@ pub const KINDS: [(&str, &str); 6] = [
     ("plain", "nnssss"),
     ("why", "nsssns"),
 ];
-/// The last of them.
+/// The runs among them, clocked and plain, and the last one.
+pub const PACKED: usize = 3;
+pub const PLAIN: usize = 4;
 pub const WHY: usize = 5;
 
 /// Plain numbers and stretches of numbers, each in their order.
@@ -51,7 +53,7 @@ impl Read {
     }
 
     /// The lengths a call asks for, when its counts are right.
-    fn right_lengths(&self, kind: usize) -> Vec<i128> {
+    pub fn right_lengths(&self, kind: usize) -> Vec<i128> {
         let first = self.plain[0];
         match kind {
             1 => [22, 18, 11, OUTPUT_WORDS as i128].map(|words| words * first).to_vec(),
@@ -61,7 +63,7 @@ impl Read {
                 let rows = self.plain[1];
                 let mut lengths = vec![rows * first; 3];
                 lengths.extend([2 * rows, rows + first + 3]);
-                lengths.truncate(if kind == 3 { 5 } else { 4 });
+                lengths.truncate(if kind == PACKED { 5 } else { 4 });
                 lengths
             }
         }

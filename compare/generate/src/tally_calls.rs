@@ -5,9 +5,11 @@ use std::io::{self, BufRead, BufReader};
 use std::path::Path;
 
 use crate::oracle::{attributes_refused, clock_refused, too_wide, Controls};
-use crate::read_calls::{records, Read, Slices, KINDS, WHY};
+use crate::packed_oracle::lowest_overfull;
+use crate::read_calls::{records, Read, Slices, KINDS, PACKED, PLAIN, WHY};
 use crate::seen_flags::SeenHeld;
 use crate::seen_lanes::{cause, SeenLanes, CAUSES};
+use crate::seen_packed::SeenRun;
 use crate::seen_why::SeenWhy;
 use crate::seen_wrap::SeenWrap;
 use crate::table::Table;
@@ -21,8 +23,8 @@ const NUMBERS: [&[u64]; 6] = [
     &[0, 5, 8],
     &[0, 1, 2, 3, 4, 5, 6, 7, 8, 9],
     &[0, 1, 2],
-    &[0, 2, 10, 11],
-    &[0, 2, 10, 11],
+    &[0, 2, 10, 11, 14],
+    &[0, 2, 10, 11, 14],
     &[0, 1, 2, 3, 4, 5, 6, 7, 8, 9, 13],
 ];
 
@@ -42,8 +44,7 @@ struct Groups {
     slices: Vec<usize>,
     lengths: [usize; 6],
     adder_modes: usize,
-    terms: [usize; 2],
-    rows: [usize; 2],
+    runs: [SeenRun; 2],
     heights: usize,
     simd: usize,
     lanes: SeenLanes,
@@ -62,7 +63,6 @@ impl Groups {
         let lengths = std::array::from_fn(|kind| {
             table.group(&format!("{} wrong length alone", KINDS[kind].0), STRETCHES[kind])
         });
-        let runs = ["packed", "plain"];
         Groups {
             returned,
             slices: (3..10)
@@ -71,8 +71,7 @@ impl Groups {
             lengths,
             adder_modes: table
                 .group("adder accepted mode", [0, 1, 2, 3, 4, 5, 6, 7, 12, 13, 14, 15]),
-            terms: runs.map(|run| table.group(&format!("{run} accepted terms"), 1..8)),
-            rows: runs.map(|run| table.group(&format!("{run} accepted rows"), [1, 2, 4095, 4096])),
+            runs: [PACKED, PLAIN].map(|kind| SeenRun::new(table, kind)),
             heights: table.group("clock accepted, by slices", 1..25),
             simd: table.group("clock accepted, by USE_SIMD", SIMD_NAMES),
             lanes: SeenLanes::new(table),
@@ -105,8 +104,8 @@ pub fn tally(calls: &Path, answers: &Path) -> io::Result<bool> {
     Ok(unmet == 0 && wrong == 0 && answers.next().is_none())
 }
 
-/// Counts one call, and checks what can be checked without a data path; of why all that its answer
-/// tells about itself.
+/// Counts one call, and checks what can be checked without a data path; of a run all of its answer,
+/// and of why all that its answer tells about itself.
 fn one(table: &mut Table, groups: &Groups, call: &str, answer: &str) -> Result<(), String> {
     let mut fields = call.split(' ');
     let name = fields.next().unwrap_or("");
@@ -123,8 +122,10 @@ fn one(table: &mut Table, groups: &Groups, call: &str, answer: &str) -> Result<(
     if !lent_words_right(kind, number, &call, &answer) {
         return Err(format!("{name} wrote where it must not"));
     }
-    if kind == WHY {
-        groups.why.call(table, &call, &answer, refusal)?;
+    match kind {
+        PACKED | PLAIN => groups.runs[kind - PACKED].call(table, &call, &answer, refusal)?,
+        WHY => groups.why.call(table, &call, &answer, refusal)?,
+        _ => {}
     }
     let item = table.item(groups.returned[kind], &number.to_string());
     table.met(groups.returned[kind], item);
@@ -192,11 +193,6 @@ fn accepted(
         1 => {
             table.met(groups.heights, call.plain[0] as usize - 1);
             slices(table, groups, call, answer)?;
-        }
-        3 | 4 => {
-            table.met(groups.terms[kind - 3], call.plain[0] as usize - 1);
-            let rows = [1, 2, 4095, 4096].iter().position(|rows| *rows == call.plain[1]);
-            rows.into_iter().for_each(|item| table.met(groups.rows[kind - 3], item));
         }
         _ => {}
     }
@@ -272,11 +268,12 @@ fn why_refusal(call: &Read) -> Refusal {
 }
 
 fn packed_refusal(kind: usize, call: &Read) -> Refusal {
-    if !(1..=7).contains(&call.plain[0]) {
+    if !(1..=8).contains(&call.plain[0]) {
         return Some((10, 0));
     }
     if !(1..=4096).contains(&call.plain[1]) {
         return Some((11, 0));
     }
-    length_refusal(kind, call)
+    let overfull = || lowest_overfull(call).map(|row| (14, row as i128));
+    length_refusal(kind, call).or_else(overfull)
 }

@@ -18,9 +18,9 @@ use Rattle.column.specs.Refusals.{numberOf, placeOf, clockAnswer, clearAnswer, 
 use Rattle.column.specs.Calls.{whyOf}
 use Rattle.packed.specs.declared.Run.{Run}
 use Rattle.packed.specs.Packed.{Batch, runList, readAnswers, plainAnswers}
-use Rattle.packed.specs.Calls.{numberOf as runNumber, clocksOf, clockedRun, plainRun}
+use Rattle.packed.specs.Calls.{numberOf as runNumber, placeOf as runPlace, clocksOf, clockedRun, plainRun}
 
--- a refusal: 2^48, 256 for each slice below the one reported, and the number
+-- a refusal: 2^48, 256 for each slice (of a packed run each row) below the one reported, and the number
 abbrev pub refusal : (place number : ℕ) → ℕ
 refusal place number = 2 ^ 48 + 256 * place + number
 
@@ -50,7 +50,7 @@ pub record WhyC (count : ℕ) (at rs ps : List ℕ) (k : ℕ) (ws : List ℕ) (r
 
 -- the returned word of a packed run: the clocks it stepped, which are 0 for the plain run
 unfoldable pub runWord : Run → ℕ
-runWord run = cond (eqb (runNumber run) 0) (clocksOf run) (refusal 0 (runNumber run))
+runWord run = cond (eqb (runNumber run) 0) (clocksOf run) (refusal (runPlace run) (runNumber run))
 
 -- `dsp_packed_clocked`, of the lent answers os and the lent list ws
 pub record ClockedRunC (g : Batch) (os : List ℤ) (ws : List ℕ) (r : ℕ) (os′ : List ℤ) (ws′ : List ℕ) : Type 0 where

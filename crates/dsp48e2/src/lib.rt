@@ -3,11 +3,20 @@ ghost use mathlib.Core.Path.{_≡_};
 ghost use Prim.Native.Nat.{_<_};
 ghost use Rattle.unit.specs.Unit.{adder};
 ghost use Rattle.column.specs.Refusals.{placeOf};
-ghost use Rattle.dsp48e2.specs.Border.{wordOf, ClockedC, ClearedC, whyLent, WhyC, runWord, ClockedRunC, PlainRunC};
-ghost use Rattle.packed.specs.Packed.{batch};
+ghost use Rattle.dsp48e2.specs.Border.{refusal, wordOf, ClockedC, ClearedC, whyLent, WhyC, runWord, ClockedRunC, PlainRunC};
+ghost use Rattle.packed.specs.Packed.{mostRows, batch};
+ghost use Rattle.packed.specs.Calls.{placeOf as runPlace};
 use column::Answer;
 use column::Reason;
 use packed::Run;
+
+// A refusal's word, whatever was refused.
+fn refused(place: usize, number: u64) -> u64
+    requires { ⌜ (place < mostRows) × (number < 256) ⌝ }
+    ensures { λ r. ⌜ r ≡ refusal place number ⌝ }
+{
+    0x1_0000_0000_0000 + 256 * place as u64 + number
+}
 
 // The returned word of an answer.
 fn word_of(answer: Answer) -> u64
@@ -18,7 +27,7 @@ fn word_of(answer: Answer) -> u64
     if number == 0 {
         return 0;
     }
-    0x1_0000_0000_0000 + 256 * column::place(answer) as u64 + number
+    refused(column::place(answer), number)
 }
 
 // The adder on six plain numbers: the result, or 2^48+5 when a word is over width, or else 2^48+8 when the mode forbids it.
@@ -86,13 +95,14 @@ pub extern "C" fn dsp_why(
 
 // The returned word of a packed run.
 fn run_word(run: Run) -> u64
+    requires { ⌜ runPlace run < mostRows ⌝ }
     ensures { λ r. ⌜ r ≡ runWord run ⌝ }
 {
     let number = packed::number(run);
     if number == 0 {
         return packed::clocks(run);
     }
-    0x1_0000_0000_0000 + number
+    refused(packed::place(run), number)
 }
 
 // The packed run, stepped clock by clock: the clocks it stepped when accepted, one for each word of the list.

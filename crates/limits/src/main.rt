@@ -1,6 +1,7 @@
-// Runs the calls at the limits that 01 asks to be run ("Values to hold against"): 24 slices pass, 0 and 25 are refused; 7 terms
-// pass, 8 are refused. A line says what was tried, and the answer's number and place; of a run also its clocks, and whether its
-// answers are right. Each try is a function of its own, since an array's length is a constant.
+// Runs the calls at the limits that 01 asks to be run ("Values to hold against"), the terms as 02, Ask 6, has them: 24 slices
+// pass, 0 and 25 are refused; 7 and 8 terms pass, 8 are refused where a row is overfull, 9 always. A line says what was tried,
+// and the answer's number and place; of a run also its clocks, and whether its answers are right. Each try is a function of its
+// own, since an array's length is a constant.
 use column::Attributes;
 use column::Outputs;
 use column::Ports;
@@ -19,7 +20,7 @@ fn tell_clock(count: u64, answer: column::Answer) {
     print(column::place(answer) as u64, b"\n");
 }
 
-// Of a run, whether both of its answers are 114688, which is 7 times 128 times 128.
+// Of a run, whether the answers of its last row are right.
 fn tell_run(terms: u64, run: packed::Run, high_right: bool, low_right: bool) {
     print(terms, b" terms: ");
     print(packed::number(run), b" ");
@@ -63,7 +64,7 @@ fn slices_25() {
     );
 }
 
-// One row, of which each number is -128.
+// One row, of which each number is -128: 7 times 128 times 128, twice.
 fn terms_7() {
     let bytes = [-128i8; 7];
     let mut answers = [0i32; 2];
@@ -72,13 +73,35 @@ fn terms_7() {
     tell_run(7, run, answers[0] == 114688, answers[1] == 114688);
 }
 
-// Refused, so its answers stay 0.
+// The same with one term more, whose b is -127: 128 times 127 more, twice.
 fn terms_8() {
     let bytes = [-128i8; 8];
+    let mut b = [-128i8; 8];
+    b[7] = -127;
     let mut answers = [0i32; 2];
     let mut list = [0u64; 12];
-    let run = packed::packed_clocked(8, 1, &bytes, &bytes, &bytes, &mut answers, &mut list);
-    tell_run(8, run, answers[0] == 114688, answers[1] == 114688);
+    let run = packed::packed_clocked(8, 1, &bytes, &bytes, &b, &mut answers, &mut list);
+    tell_run(8, run, answers[0] == 130944, answers[1] == 130944);
+}
+
+// Two rows, of which the second is all -128 and the first has one d that is not. Refused, so the answers stay 0.
+fn row_1_overfull() {
+    let bytes = [-128i8; 16];
+    let mut d = [-128i8; 16];
+    d[0] = 0;
+    let mut answers = [0i32; 4];
+    let mut list = [0u64; 13];
+    let run = packed::packed_clocked(8, 2, &bytes, &d, &bytes, &mut answers, &mut list);
+    tell_run(8, run, answers[2] == 131072, answers[3] == 131072);
+}
+
+// Refused too.
+fn terms_9() {
+    let bytes = [1i8; 9];
+    let mut answers = [0i32; 2];
+    let mut list = [0u64; 13];
+    let run = packed::packed_clocked(9, 1, &bytes, &bytes, &bytes, &mut answers, &mut list);
+    tell_run(9, run, answers[0] == 9, answers[1] == 9);
 }
 
 fn main() {
@@ -87,4 +110,6 @@ fn main() {
     slices_25();
     terms_7();
     terms_8();
+    row_1_overfull();
+    terms_9();
 }

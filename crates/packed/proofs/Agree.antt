@@ -4,6 +4,7 @@ use mathlib.Core.Path.{_≡_, refl, sym, ap, _∙_}
 use mathlib.Core.Bool.{true}
 use mathlib.Core.List.{List}
 use native.Mathlib.Omega.{arith}
+use lib.Dec.{eqb}
 use lib.ListN.{length}
 use lib.IntN.{ℤ}
 use borrow.Author.Tests.{eq-eqb}
@@ -13,8 +14,8 @@ use Rattle.packed.specs.Packed.{Batch, runClocks, runList, readAnswers, 
 use Rattle.packed.specs.Calls.{numberOf, clockedRun, ClockedDone, plainRun, PlainDone}
 use Rattle.packed.specs.Parts.{Ready, FedBytes}
 use Rattle.packed.proofs.Fed.{fed-term}
-use Rattle.packed.proofs.Passing.{any-clocks}
-use Rattle.packed.proofs.Theorem.{RowBytes, packed-run}
+use Rattle.packed.proofs.Passing.{passed, any-clocks}
+use Rattle.packed.proofs.Theorem.{RowBytes, PackedRun, packed-run}
 
 module _ (g : Batch) (bytes : (t : ℕ) → t < runClocks (g .terms) (g .rows) → (k : ℕ) → k < g .terms → FedBytes g t k) where
   -- where all that is fed is bytes, so is every row
@@ -27,7 +28,14 @@ module _ (g : Batch) (bytes : (t : ℕ) → t < runClocks (g .terms) (g .rows) �
       }
 
   pub exact-answers : Ready g → readAnswers (g .terms) (g .rows) (runList g) ≡ plainAnswers g
-  exact-answers ready = packed-run g (ready .some) (ready .most) row-bytes .answers
+  exact-answers ready = packed-run g (ready .some) (ready .most) row-bytes (ready .fit) .answers
+
+-- a run that is not refused: its rows are bytes, as every lent row is
+pub accepted-run : (g : Batch) (os : List ℤ) (ws : List ℕ) → ((j : ℕ) → j < g .rows → RowBytes g j) → numberOf (clockedRun g os ws) ≡ 0 → PackedRun g
+unfolding clockedRun
+accepted-run g os ws bytes ran =
+    let ready = passed g (length os) (eqb (length ws) (runClocks (g .terms) (g .rows))) (length (runList g)) ran .ready in
+    packed-run g (ready .some) (ready .most) bytes (ready .fit)
 
 -- ---- the two runs
 

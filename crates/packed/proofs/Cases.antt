@@ -1,5 +1,5 @@
--- 01, "Values to hold against": the twelve cases in a single statement; and beside it "Slips the old model made", each as a fact that the
--- slip would break. All by computation from the definitions. Assumes nothing.
+-- 01, "Values to hold against": the twelve cases in a single statement; beside it "Slips the old model made", each as a fact that the
+-- slip would break; and eight terms at their bound (02, Ask 6). All by computation from the definitions. Assumes nothing.
 use Prim.Native.Nat.{ℕ, _+_, _%_, _^_}
 use mathlib.Core.Path.{_≡_, refl}
 use mathlib.Core.List.{List, [], _∷_}
@@ -18,8 +18,9 @@ use Rattle.packed.specs.Packed.{batch, fed, runAttributes, runPorts, run
 abbrev row : (terms : ℕ) → (a d b : List ℤ) → ℕ
 row terms a d b = top (batch terms 1 a d b) (0 + terms + 3)
 
-abbrev lowest : List ℤ
-lowest = replicate 7 (negsuc 127)
+-- n numbers −128
+abbrev lowest : (n : ℕ) → List ℤ
+lowest n = replicate n (negsuc 127)
 
 -- the unit is the clock's own, with USE_SIMD 0
 pub record Cases : Type 0 where
@@ -51,7 +52,7 @@ pub record Cases : Type 0 where
       × (highSum (row 1 (pos 1 ∷ []) (negsuc 0 ∷ []) (pos 1 ∷ [])) ≡ pos 1)
       × (lowSum (row 1 (pos 1 ∷ []) (negsuc 0 ∷ []) (pos 1 ∷ [])) ≡ negsuc 0)
   -- seven terms all −128: 114688 and 114688
-  pub case12 : (highSum (row 7 lowest lowest lowest) ≡ pos 114688) × (lowSum (row 7 lowest lowest lowest) ≡ pos 114688)
+  pub case12 : (highSum (row 7 (lowest 7) (lowest 7) (lowest 7)) ≡ pos 114688) × (lowSum (row 7 (lowest 7) (lowest 7) (lowest 7)) ≡ pos 114688)
 
 pub cases : Cases
 unfolding top fed runAttributes runPorts runRegisters after columnShown columnNext shownAt nextAt cascadeInto sliceNext sliceOutputs sliceCascade nextOf edge load outputsOfSettled cascadeOf sliceSettled settledOf resultOf sliceOperands operandsOf selectsOf controlsOf pathsOf productOf leftOf rightOf preAddedOf aSide dSide splitResult unitResult lanes arithmetic logicRows wrappedSum preAdder product detected unmasked
@@ -86,3 +87,17 @@ pub record Slips : Type 0 where
 pub slips : Slips
 unfolding top fed runAttributes runPorts runRegisters after columnShown columnNext shownAt nextAt cascadeInto sliceNext sliceOutputs sliceCascade nextOf edge load outputsOfSettled cascadeOf sliceSettled settledOf resultOf sliceOperands operandsOf selectsOf controlsOf pathsOf productOf leftOf rightOf preAddedOf aSide dSide splitResult unitResult lanes arithmetic wrappedSum preAdder product detected unmasked
 slips = record { before-the-edge = refl; mode-3-takes-cin = refl; shift-keeps-sign = refl; with-bit-17 = (refl, refl); minus-five = (refl, refl) }
+
+pub record Eight : Type 0 where
+  -- all −128 but one b, −127: 7 · 16384 + 16256, twice
+  pub one-less : (highSum (row 8 (lowest 8) (lowest 8) (negsuc 126 ∷ lowest 7)) ≡ pos 130944)
+      × (lowSum (row 8 (lowest 8) (lowest 8) (negsuc 126 ∷ lowest 7)) ≡ pos 130944)
+  -- d all −128, b all 127: −8 · 16256, the least low sum; and a all 127
+  pub least : (highSum (row 8 (replicate 8 (pos 127)) (lowest 8) (replicate 8 (pos 127))) ≡ pos 129032)
+      × (lowSum (row 8 (replicate 8 (pos 127)) (lowest 8) (replicate 8 (pos 127))) ≡ negsuc 130047)
+  -- the row that is refused: 131072 twice, and what would be read for them is neither
+  pub overfull-read : (highSum (row 8 (lowest 8) (lowest 8) (lowest 8)) ≡ pos 131073) × (lowSum (row 8 (lowest 8) (lowest 8) (lowest 8)) ≡ negsuc 131071)
+
+pub eight : Eight
+unfolding top fed runAttributes runPorts runRegisters after columnShown columnNext shownAt nextAt cascadeInto sliceNext sliceOutputs sliceCascade nextOf edge load outputsOfSettled cascadeOf sliceSettled settledOf resultOf sliceOperands operandsOf selectsOf controlsOf pathsOf productOf leftOf rightOf preAddedOf aSide dSide splitResult unitResult lanes arithmetic wrappedSum preAdder product detected unmasked
+eight = record { one-less = (refl, refl); least = (refl, refl); overfull-read = (refl, refl) }

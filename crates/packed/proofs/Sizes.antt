@@ -24,7 +24,7 @@ natAbs-neg : (n : ℕ) → natAbs (negℤ (pos n)) ≡ n
 natAbs-neg zero = refl
 natAbs-neg (suc n) = refl
 
-natAbs-mul : (x y : ℤ) → natAbs (x *ℤ y) ≡ natAbs x * natAbs y
+pub natAbs-mul : (x y : ℤ) → natAbs (x *ℤ y) ≡ natAbs x * natAbs y
 natAbs-mul (pos a) (pos b) = refl
 natAbs-mul (pos a) (negsuc b) = natAbs-neg (a * suc b)
 natAbs-mul (negsuc a) (pos b) = natAbs-neg (suc a * b)

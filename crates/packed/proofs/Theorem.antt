@@ -1,9 +1,10 @@
--- The packed run's theorem: the top P of clock j + terms + 3 is exactly the packed word of row j's two dot products, which both are read
--- back from it; no clock of the run is refused; and its clocks are rows + terms + 3. Assumes nothing.
+-- The packed run's theorem: the top P of clock j + terms + 3 is exactly the packed word of row j's two dot products, which are both read
+-- back from it exactly where the row is not overfull; no clock of the run is refused; and its clocks are rows + terms + 3. Assumes nothing.
 use Prim.Native.Nat.{ℕ, zero, suc, _+_, _*_, _%_, _^_, _≤_, _<_}
 use native.Mathlib.Nat.{add-suc, add-zero, le-refl, le-trans, add-le-add, mul-le-mul}
 use native.Mathlib.Omega.{arith}
 use mathlib.Core.Path.{_≡_, refl, sym, ap, ap₂, _∙_}
+use mathlib.Core.Bool.{false}
 use mathlib.Core.List.{List}
 use lib.Dec.{lit<}
 use lib.ListN.{length, getD}
@@ -19,8 +20,10 @@ use Rattle.records.specs.Records.{outputWords}
 use Rattle.column.specs.declared.Answer.the-variants.{Accepted}
 use Rattle.column.specs.Refusals.{clockAnswer}
 use Rattle.packed.specs.Packed.{mostTerms, Batch, Byte, runAttributes, runPorts, runRegisters, top, runList, rowWord, readAnswers, dot, highDot, lowDot, plainAnswers}
+use Rattle.packed.specs.Calls.{overfull}
 use Rattle.packed.proofs.Sizes.{natAbs-add, natAbs-mul-le, mag-lt, more-lanes}
 use Rattle.packed.proofs.Dots.{Bytes, dot-size}
+use Rattle.packed.proofs.LowSums.{low-fits, not-overfull}
 use Rattle.packed.proofs.Fed.{fed-term}
 use Rattle.packed.proofs.Trace.{below, productWord, trace, four-on, top-shows}
 use Rattle.packed.proofs.Fill.{pairs-ext}
@@ -123,11 +126,10 @@ pub record Exact (p : ℕ) (high low : ℤ) : Type 0 where
   pub high-is : highSum p ≡ high
   pub low-is : lowSum p ≡ low
 
-exact : (p : ℕ) (high low : ℤ) → p ≡ word 48 (packed high low) → natAbs high ≤ mostTerms * 2 ^ 14 → natAbs low ≤ mostTerms * 2 ^ 14 → Exact p high low
+exact : (p : ℕ) (high low : ℤ) → p ≡ word 48 (packed high low) → natAbs high ≤ mostTerms * 2 ^ 14 → mag low < 2 ^ 17 → Exact p high low
 exact p high low e h l =
     let mh = mag-lt high {n = 2 ^ 28} h (lit< tt) in
-    let ml = mag-lt low {n = 2 ^ 17} l (lit< tt) in
-    record { packs = e; high-is = ap highSum e ∙ high-read high low mh ml; low-is = ap lowSum e ∙ low-read high low mh ml }
+    record { packs = e; high-is = ap highSum e ∙ high-read high low mh l; low-is = ap lowSum e ∙ low-read high low mh l }
 
 -- the whole run: for any number of rows, so for 1 to 4,096
 pub record PackedRun (g : Batch) : Type 0 where
@@ -143,17 +145,24 @@ pub record PackedRun (g : Batch) : Type 0 where
   pub answers : readAnswers (g .terms) (g .rows) (runList g) ≡ plainAnswers g
 
 module _ (g : Batch) (some : 1 ≤ g .terms) (most : g .terms ≤ mostTerms) where
-  pub packed-row : (j : ℕ) → j < g .rows → RowBytes g j → Exact (top g (j + g .terms + 3)) (highDot g j) (lowDot g j)
-  packed-row j in-rows bytes =
-      let e : j + g .terms + 3 ≡ suc (suc (suc (j + g .terms))) = omega arith in
-      let room = mul-le-mul most (le-refl (2 ^ 14)) in
-      exact _ (highDot g j) (lowDot g j)
-      (rw e (top-shows g _ some ∙ cascaded g j in-rows bytes (g .terms) (le-refl (g .terms))))
-      (le-trans (dot-size (g .a) (g .b) (j * g .terms) (g .terms) (bytes .a) (bytes .b)) room)
-      (le-trans (dot-size (g .d) (g .b) (j * g .terms) (g .terms) (bytes .d) (bytes .b)) room)
+  -- a row's two sums are exact in its word if and only if it is not overfull
+  pub packed-row : (j : ℕ) → j < g .rows → RowBytes g j
+      → (overfull g j ≡ false → Exact (top g (j + g .terms + 3)) (highDot g j) (lowDot g j))
+      × (Exact (top g (j + g .terms + 3)) (highDot g j) (lowDot g j) → overfull g j ≡ false)
+  packed-row j in-rows bytes = (
+    λ fits.
+        exact _ (highDot g j) (lowDot g j)
+        (rw e (top-shows g _ some ∙ cascaded g j in-rows bytes (g .terms) (le-refl (g .terms))))
+        (le-trans (dot-size (g .a) (g .b) (j * g .terms) (g .terms) (bytes .a) (bytes .b)) (mul-le-mul most (le-refl (2 ^ 14))))
+        (low-fits g j most (bytes .d) (bytes .b) fits),
+    λ read. not-overfull g j (top g (j + g .terms + 3)) (read .low-is),
+  )
+    where
+      e : j + g .terms + 3 ≡ suc (suc (suc (j + g .terms)))
+      e = omega arith
 
-  pub packed-run : ((j : ℕ) → j < g .rows → RowBytes g j) → PackedRun g
-  packed-run bytes =
+  pub packed-run : ((j : ℕ) → j < g .rows → RowBytes g j) → ((j : ℕ) → j < g .rows → overfull g j ≡ false) → PackedRun g
+  packed-run bytes fit =
       record {
         row = row;
         clock-accepted = λ t os room. accepted g t os some most room;
@@ -163,7 +172,7 @@ module _ (g : Batch) (some : 1 ≤ g .terms) (most : g .terms ≤ mostTerms) whe
       }
     where
       row : (j : ℕ) → j < g .rows → Exact (top g (j + g .terms + 3)) (highDot g j) (lowDot g j)
-      row j h = packed-row j h (bytes j h)
+      row j h = packed-row j h (bytes j h) .0 (fit j h)
 
       each : (j : ℕ) → j < g .rows
           → (highSum (rowWord (g .terms) (runList g) j) ≡ highDot g j) × (lowSum (rowWord (g .terms) (runList g) j) ≡ lowDot g j)

@@ -1,37 +1,44 @@
 -- The public calls as their callers see them: one answer, and one content of every lent word, for all inputs (01, "Refusal numbers":
--- "Packed run: 10, 11, 2; a refused run writes no answer and no list word, and reports 0 clocks and place 0"). Assumes nothing.
-use Prim.Native.Nat.{ℕ, _*_}
+-- "Packed run: 10, 11, 2; a refused run writes no answer and no list word, and reports 0 clocks and place 0"; 02, Ask 6: "14, after 2,
+-- naming the lowest such row, with nothing written"). Assumes nothing.
+use Prim.Native.Nat.{ℕ, zero, suc, _+_, _*_}
 use mathlib.Core.Path.{_≡_, _∙_, sym}
-use mathlib.Core.Bool.{Bool, true, _&&_}
+use mathlib.Core.Bool.{Bool, true, false, _&&_}
 use mathlib.Core.List.{List}
 use lib.Dec.{leb, eqb}
-use lib.ListN.{length}
-use lib.IntN.{ℤ}
+use lib.ListN.{length, getD}
+use lib.IntN.{ℤ, pos, negsuc}
 use Rattle.lent.specs.Refusing.{unless, leaves}
+use Rattle.column.specs.declared.refusals.Found.{Found}
+use Rattle.column.specs.declared.refusals.Found.the-variants.{Nothing, At}
+use Rattle.column.specs.Refusals.{lowest}
 use Rattle.packed.specs.declared.Run.{Run}
-use Rattle.packed.specs.declared.Run.the-variants.{Ran, BadTerms, BadRows, BadLength}
+use Rattle.packed.specs.declared.Run.the-variants.{Ran, BadTerms, BadRows, BadLength, Overfull}
 use Rattle.packed.specs.Packed.{mostTerms, mostRows, Batch, runClocks, runList, readAnswers, plainAnswers}
 
--- 01's number of each answer, its clocks and its place
+-- the number of each answer, 01's and 14 of 02, Ask 6; its clocks; and its place, which is a row for 14
 abbrev pub numberOf : Run → ℕ
 numberOf (Ran clocks) = 0
 numberOf BadTerms = 10
 numberOf BadRows = 11
 numberOf BadLength = 2
+numberOf (Overfull row) = 14
 
 abbrev pub clocksOf : Run → ℕ
 clocksOf (Ran clocks) = clocks
 clocksOf BadTerms = 0
 clocksOf BadRows = 0
 clocksOf BadLength = 0
+clocksOf (Overfull row) = 0
 
 abbrev pub placeOf : Run → ℕ
 placeOf (Ran clocks) = 0
 placeOf BadTerms = 0
 placeOf BadRows = 0
 placeOf BadLength = 0
+placeOf (Overfull row) = row
 
--- 10: "terms not 1 to 7"
+-- 10 (02, Ask 6): "when terms are not 1 to 8"
 abbrev pub termsFit : (terms : ℕ) → Bool
 termsFit terms = leb 1 terms && leb terms mostTerms
 
@@ -47,13 +54,33 @@ lengthsFit g answers =
     && eqb (length (g .b)) (g .rows * g .terms)
     && eqb answers (2 * g .rows)
 
--- "Packed run: 10, 11, 2"; list is whether the list has its length, "which number 2 covers too"
+-- −128, which is -1 - 127
+abbrev pub isLowest : ℤ → Bool
+isLowest (pos n) = false
+isLowest (negsuc n) = eqb n 127
+
+-- the n numbers of xs from place s on are all −128
+unfoldable pub allLowest : (xs : List ℤ) → (s n : ℕ) → Bool
+allLowest xs s zero = true
+allLowest xs s (suc n) = allLowest xs s n && isLowest (getD xs (s + n) (pos 0))
+
+-- 14 (02, Ask 6): a row "with all eight d and all eight b equal to −128, where the low sum would be 131072"
+abbrev pub overfull : Batch → (j : ℕ) → Bool
+overfull g j = eqb (g .terms) mostTerms && (allLowest (g .d) (j * g .terms) (g .terms) && allLowest (g .b) (j * g .terms) (g .terms))
+
+-- "naming the lowest such row"
+abbrev pub refuseRow : Found → Run → Run
+refuseRow Nothing next = next
+refuseRow (At j) next = Overfull j
+
+-- "Packed run: 10, 11, 2", and "14, after 2"; list is whether the list has its length, "which number 2 covers too"
 unfoldable pub checked : Batch → (answers : ℕ) → (list : Bool) → (clocks : ℕ) → Run
 checked g answers list clocks =
     unless (termsFit (g .terms)) BadTerms
     (unless (rowsFit (g .rows)) BadRows
     (unless (lengthsFit g answers && list) BadLength
-    (Ran clocks)))
+    (refuseRow (lowest (overfull g) (g .rows))
+    (Ran clocks))))
 
 -- `packed_clocked`, of the lent answers os and the lent list ws: "it returns the clocks it stepped, one for each word"
 unfoldable pub clockedRun : Batch → (os : List ℤ) → (ws : List ℕ) → Run

@@ -13,9 +13,9 @@ use Rattle.records.specs.declared.Ports.{Ports}
 use Rattle.records.specs.Records.{registerWords, outputWords, attributesWords, portsWords, outputsOf}
 use Rattle.column.specs.Column.{stretch, stacked, columnShown, after}
 
--- 10: "terms not 1 to 7"; 11: "rows not 1 to 4,096"
+-- 02, Ask 6: "10 when terms are not 1 to 8"; 11: "rows not 1 to 4,096"
 abbrev pub mostTerms : ℕ
-mostTerms = 7
+mostTerms = 8
 
 abbrev pub mostRows : ℕ
 mostRows = 4096

@@ -1,18 +1,22 @@
 -- What the parts of the code promise one another; no caller needs it. Assumes nothing.
 use Prim.Native.Nat.{ℕ, suc, _+_, _*_, _≤_, _<_}
 use mathlib.Core.Path.{_≡_}
-use mathlib.Core.Bool.{Bool, true}
+use mathlib.Core.Bool.{Bool, true, false}
 use mathlib.Core.List.{List}
 use lib.Dec.{eqb}
 use lib.ListN.{length, set}
 use lib.IntN.{ℤ}
 use Rattle.records.specs.Records.{portWords, outputWords}
 use Rattle.records.specs.declared.Ports.{Ports}
+use Rattle.column.specs.Refusals.{lowest}
+use Rattle.packed.specs.declared.Run.{Run}
+use Rattle.packed.specs.declared.Run.the-variants.{Ran}
 use Rattle.packed.specs.declared.checks.ListLength.{ListLength}
 use Rattle.packed.specs.declared.checks.ListLength.the-variants.{NoList, Words}
 use Rattle.packed.specs.Packed.{mostTerms, mostRows, Batch, Byte, fed, slicePorts, runAttributes, runPorts, runRegisters, top, runClocks, runList}
+use Rattle.packed.specs.Calls.{overfull, refuseRow}
 
--- the checks have passed: as many terms and rows as are taken, and arrays of their length
+-- the checks have passed: as many terms and rows as are taken, arrays of their length, and no overfull row
 pub record Ready (g : Batch) : Type 0 where
   pub some : 1 ≤ g .terms
   pub most : g .terms ≤ mostTerms
@@ -20,6 +24,13 @@ pub record Ready (g : Batch) : Type 0 where
   pub highs : length (g .a) ≡ g .rows * g .terms
   pub lows : length (g .d) ≡ g .rows * g .terms
   pub rights : length (g .b) ≡ g .rows * g .terms
+  pub fit : (j : ℕ) → j < g .rows → overfull g j ≡ false
+
+-- what a look at the rows has found, where it had all of them to go by
+abbrev pub Looked : Batch → Run → Type 0
+Looked g r =
+    g .terms ≤ mostTerms → g .rows ≤ mostRows → length (g .d) ≡ g .rows * g .terms → length (g .b) ≡ g .rows * g .terms
+    → r ≡ refuseRow (lowest (overfull g) (g .rows)) (Ran 0)
 
 -- the list has its length, where the run is lent one
 abbrev pub listFits : (terms rows : ℕ) → ListLength → Bool

@@ -3,10 +3,10 @@ ghost use mathlib.Core.Path.{_≡_};
 ghost use Prim.Native.Nat.{_≤_};
 ghost use Rattle.packed.specs.Packed.{mostTerms, mostRows, batch};
 ghost use Rattle.packed.specs.Calls.{termsFit, rowsFit, lengthsFit, checked};
-ghost use Rattle.packed.specs.Parts.{listFits};
+ghost use Rattle.packed.specs.Parts.{listFits, Looked};
 use crate::Run;
 
-pub const MOST_TERMS: usize = 7;
+pub const MOST_TERMS: usize = 8;
 
 pub const MOST_ROWS: usize = 4096;
 
@@ -47,7 +47,8 @@ fn list_fits(terms: usize, rows: usize, list: ListLength) -> bool
     }
 }
 
-// `Ran(0)`: nothing is refused, and no clock is stepped yet.
+// `Ran(0)`: nothing is refused, and no clock is stepped yet. The rows were looked at before, so that what the compiler meets
+// last, before the work, is how few terms there are.
 pub fn run_answer(
     terms: usize,
     rows: usize,
@@ -56,7 +57,9 @@ pub fn run_answer(
     b: &[i8],
     answers: usize,
     list: ListLength,
+    looked: Run,
 ) -> Run
+    requires { ⌜ Looked (batch terms rows (now a) (now d) (now b)) looked ⌝ }
     ensures { λ r. ⌜ r ≡ checked (batch terms rows (now (a .entry)) (now (d .entry)) (now (b .entry))) answers (listFits terms rows list) 0 ⌝ }
 {
     if !terms_fit(terms) {
@@ -69,5 +72,5 @@ pub fn run_answer(
     if !(lengths & list_fits(terms, rows, list)) {
         return Run::BadLength;
     }
-    Run::Ran(0)
+    looked
 }

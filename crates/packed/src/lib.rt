@@ -8,16 +8,18 @@ mod answers;
 mod checks;
 mod clocked;
 mod feed;
+mod overfull;
 mod plain;
 
 use checks::ListLength;
 
-// What a run answers: `Ran` has the clocks that it stepped.
+// What a run answers: `Ran` has the clocks that it stepped, `Overfull` the lowest row whose low sum does not fit.
 pub enum Run {
     Ran(u64),
     BadTerms,
     BadRows,
     BadLength,
+    Overfull(usize),
 }
 
 // The clocked run: the column's own clock from a cleared column, each top P in the list, the answers read off it.
@@ -33,8 +35,9 @@ pub fn packed_clocked(
     ensures { λ r.
         ⌜ ClockedDone (batch terms rows (now (a .entry)) (now (d .entry)) (now (b .entry))) (now (answers .entry)) (now (list .entry)) r (now (answers .exit)) (now (list .exit)) ⌝ }
 {
+    let looked = overfull::rows_answer(terms, rows, d, b);
     let length = ListLength::Words(list.len());
-    let answer = checks::run_answer(terms, rows, a, d, b, answers.len(), length);
+    let answer = checks::run_answer(terms, rows, a, d, b, answers.len(), length, looked);
     let Run::Ran(_) = answer else {
         return answer;
     };
@@ -55,7 +58,17 @@ pub fn packed_plain(
     ensures { λ r.
         ⌜ PlainDone (batch terms rows (now (a .entry)) (now (d .entry)) (now (b .entry))) (now (answers .entry)) r (now (answers .exit)) ⌝ }
 {
-    let answer = checks::run_answer(terms, rows, a, d, b, answers.len(), ListLength::NoList);
+    let looked = overfull::rows_answer(terms, rows, d, b);
+    let answer = checks::run_answer(
+        terms,
+        rows,
+        a,
+        d,
+        b,
+        answers.len(),
+        ListLength::NoList,
+        looked,
+    );
     let Run::Ran(_) = answer else {
         return answer;
     };
@@ -63,7 +76,7 @@ pub fn packed_plain(
     Run::Ran(0)
 }
 
-// 01's number of an answer.
+// The number of an answer.
 pub fn number(run: Run) -> u64
     ensures { λ r. ⌜ r ≡ numberOf run ⌝ }
 {
@@ -72,6 +85,7 @@ pub fn number(run: Run) -> u64
         Run::BadTerms => 10,
         Run::BadRows => 11,
         Run::BadLength => 2,
+        Run::Overfull(_) => 14,
     }
 }
 
@@ -84,10 +98,11 @@ pub fn clocks(run: Run) -> u64
         Run::BadTerms => 0,
         Run::BadRows => 0,
         Run::BadLength => 0,
+        Run::Overfull(_) => 0,
     }
 }
 
-// The place that an answer reports: no refusal of a run has one.
+// The place that an answer reports: the row, for number 14.
 pub fn place(run: Run) -> usize
     ensures { λ r. ⌜ r ≡ placeOf run ⌝ }
 {
@@ -96,5 +111,6 @@ pub fn place(run: Run) -> usize
         Run::BadTerms => 0,
         Run::BadRows => 0,
         Run::BadLength => 0,
+        Run::Overfull(row) => row,
     }
 }

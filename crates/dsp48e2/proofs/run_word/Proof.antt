@@ -1,6 +1,5 @@
--- `dsp48e2::run_word` meets its contract: the number is small, so that nothing wraps. Assumes nothing.
+-- `dsp48e2::run_word` meets its contract: the clocks, or the refusal's word. Assumes nothing.
 use mathlib.Core.Path.{_∙_, sym}
-use native.Mathlib.Omega.{arith}
 use borrow.Author.Needs.{needs}
 use borrow.Author.Tests.{eq-eqb, ne-eqb}
 use Rattle.packed.specs.Calls.{numberOf}
@@ -15,16 +14,21 @@ returns c =
     let at-number = c .before .before in
     rw (eq-eqb (numberOf (at-number .before .args .run)) 0 (sym (at-number .number .ensures) ∙ c .before .if1 .taken)) (c .clocks .ensures)
 
-add-result : tie.Need-add-result
-add-result c = omega (arith, c .before .number .ensures, run-number-small (c .before .before .args .run))
+refused-requires : tie.Need-refused-requires
+refused-requires c κs =
+    let at-number = c .before .before in
+    (rw (c .place .ensures) (at-number .before .pre), rw (at-number .number .ensures) (run-number-small (at-number .before .args .run)))
 
 returns-2 : tie.Need-returns-2
 unfolding runWord
 returns-2 c =
+    let at-number = c .before .before .before in
     rw (
-      ne-eqb (numberOf (c .before .before .args .run)) 0 (λ e. c .if1 .left (c .before .number .ensures ∙ e)),
-      ← c .before .number .ensures,
+      ne-eqb (numberOf (at-number .before .args .run)) 0 (λ e. c .before .before .if1 .left (at-number .number .ensures ∙ e)),
+      ← at-number .number .ensures,
+      ← c .before .place .ensures,
     )
+    (c .refused .ensures)
 
 pub run-word-spec : {M : Type 1} → statement M
-run-word-spec = tie.close (tie.spec (λ c κs. search needs) (λ c κs. search needs) returns add-result returns-2)
+run-word-spec = tie.close (tie.spec (λ c κs. search needs) (λ c κs. search needs) returns (λ c κs. search needs) refused-requires returns-2)

@@ -1,4 +1,4 @@
--- `dsp48e2::word_of` meets its contract: the slice and the number are small, so that nothing wraps. Assumes nothing.
+-- `dsp48e2::word_of` meets its contract: 0, or the refusal's word. Assumes nothing.
 use mathlib.Core.Path.{_∙_, sym}
 use native.Mathlib.Omega.{arith}
 use borrow.Author.Needs.{needs}
@@ -13,22 +13,23 @@ returns : tie.Need-returns
 unfolding wordOf
 returns c = rw (eq-eqb (numberOf (c .before .before .args .answer)) 0 (sym (c .before .number .ensures) ∙ c .if1 .taken))
 
-add-result-2 : tie.Need-add-result-2
-add-result-2 c =
-    let at-number = c .before .before in
-    omega (arith, c .place .ensures, at-number .number .ensures, number-small (at-number .before .args .answer), at-number .before .pre)
+refused-requires : tie.Need-refused-requires
+refused-requires c κs =
+    let at-number = c .before .before in (
+      omega (arith, c .place .ensures, at-number .before .pre),
+      omega (arith, at-number .number .ensures, number-small (at-number .before .args .answer)),
+    )
 
 returns-2 : tie.Need-returns-2
 unfolding wordOf
 returns-2 c =
-    let at-number = c .before .before in
+    let at-number = c .before .before .before in
     rw (
-      ne-eqb (numberOf (at-number .before .args .answer)) 0 (λ e. c .before .if1 .left (at-number .number .ensures ∙ e)),
+      ne-eqb (numberOf (at-number .before .args .answer)) 0 (λ e. c .before .before .if1 .left (at-number .number .ensures ∙ e)),
       ← at-number .number .ensures,
-      ← c .place .ensures,
+      ← c .before .place .ensures,
     )
+    (c .refused .ensures)
 
 pub word-of-spec : {M : Type 1} → statement M
-word-of-spec =
-    tie.close
-    (tie.spec (λ c κs. search needs) returns (λ c κs. search needs) (λ c. search needs) (λ c. search needs) add-result-2 returns-2)
+word-of-spec = tie.close (tie.spec (λ c κs. search needs) returns (λ c κs. search needs) refused-requires returns-2)

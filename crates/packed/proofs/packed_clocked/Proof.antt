@@ -15,6 +15,9 @@ use borrow.Author.Needs.{needs}
 use Rattle.packed.proofs.packed_clocked.Statement.{statement}
 use Rattle.packed.proofs.packed_clocked.Tie as tie
 
+run-answer-requires : tie.Need-run-answer-requires
+run-answer-requires c κs = c .rows-answer .ensures
+
 returns : tie.Need-returns
 unfolding clockedRun
 returns c =
@@ -32,13 +35,13 @@ returns c =
 -- the checks have passed
 module _ (c : tie.After-enum-told) where
   abbrev start : tie.Start
-  start = c .before .before .before .before
+  start = c .before .before .before .before .before
 
   abbrev given : Batch
   given = batch (start .args .terms) (start .args .rows) (start .args .a .now) (start .args .d .now) (start .args .b .now)
 
   all : Passed given (length (start .args .answers .now)) (eqb (length (start .args .list .now)) (runClocks (given .terms) (given .rows)))
-  all = passed _ _ _ _ _ (c .before .before .run-answer .ensures) (c .enum-told .given .1)
+  all = passed _ _ _ 0 (ap numberOf (sym (c .before .before .run-answer .ensures) ∙ c .enum-told .given .1))
 
 stepped-requires : tie.Need-stepped-requires
 stepped-requires c κs = (all (c .before) .ready, eqb-true _ _ (all (c .before) .list-fits))
@@ -67,5 +70,5 @@ returns-2 c =
 pub packed-clocked-spec : {M : Type 1} → statement M
 packed-clocked-spec =
     tie.close
-    (tie.spec (λ c κs. search needs) (λ c. search needs) returns stepped-requires read-answers-requires (λ c. search needs) (λ c. search needs)
+    (tie.spec (λ c κs. search needs) run-answer-requires (λ c. search needs) returns stepped-requires read-answers-requires (λ c. search needs) (λ c. search needs)
     returns-2)

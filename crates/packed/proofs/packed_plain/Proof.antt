@@ -1,5 +1,5 @@
 -- `packed::packed_plain` meets its contract: a refusal leaves the answers, and else both sums of each row are there. Assumes nothing.
-use mathlib.Core.Path.{sym}
+use mathlib.Core.Path.{_∙_, sym, ap}
 use mathlib.Core.Bool.{true}
 use lib.ListN.{length}
 use Rattle.lent.proofs.Laws.{kept}
@@ -9,6 +9,9 @@ use Rattle.packed.proofs.Passing.{Passed, passed, refusal}
 use borrow.Author.Needs.{needs}
 use Rattle.packed.proofs.packed_plain.Statement.{statement}
 use Rattle.packed.proofs.packed_plain.Tie as tie
+
+run-answer-requires : tie.Need-run-answer-requires
+run-answer-requires c κs = c .rows-answer .ensures
 
 returns : tie.Need-returns
 unfolding plainRun
@@ -20,10 +23,10 @@ returns c =
 -- the checks have passed
 module _ (c : tie.After-enum-told) where
   abbrev start : tie.Start
-  start = c .before .before .before
+  start = c .before .before .before .before
 
   all : Passed (batch (start .args .terms) (start .args .rows) (start .args .a .now) (start .args .d .now) (start .args .b .now)) (length (start .args .answers .now)) true
-  all = passed _ _ _ _ _ (c .before .before .run-answer .ensures) (c .enum-told .given .1)
+  all = passed _ _ _ 0 (ap numberOf (sym (c .before .before .run-answer .ensures) ∙ c .enum-told .given .1))
 
 sums-requires : tie.Need-sums-requires
 sums-requires c κs = (all (c .before) .ready, all (c .before) .answers-fit)
@@ -36,4 +39,4 @@ returns-2 c =
 
 pub packed-plain-spec : {M : Type 1} → statement M
 packed-plain-spec =
-    tie.close (tie.spec (λ c κs. search needs) (λ c. search needs) returns sums-requires (λ c. search needs) returns-2)
+    tie.close (tie.spec (λ c κs. search needs) run-answer-requires (λ c. search needs) returns sums-requires (λ c. search needs) returns-2)

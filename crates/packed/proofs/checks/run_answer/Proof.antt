@@ -2,13 +2,21 @@
 use mathlib.Core.Path.{_≡_, _∙_, sym, ap₂}
 use mathlib.Core.Bool.{Bool, true, _&&_}
 use Prim.Native.Nat.{_≤_}
-use Rattle.packed.specs.Packed.{mostTerms, mostRows}
-use Rattle.packed.specs.Calls.{termsFit, rowsFit, checked}
-use Rattle.packed.proofs.Passing.{bounds}
+use Rattle.word.proofs.Laws.{both-true}
+use Rattle.packed.specs.Packed.{mostTerms, mostRows, Batch, batch}
+use Rattle.packed.specs.Calls.{termsFit, rowsFit, lengthsFit, checked}
+use Rattle.packed.specs.Parts.{listFits}
+use Rattle.packed.proofs.Passing.{bounds, lengths-equal}
 use borrow.Author.Needs.{needs}
 use borrow.Author.Tests.{not-true, not-false}
 use Rattle.packed.proofs.checks.run_answer.Statement.{statement}
 use Rattle.packed.proofs.checks.run_answer.Tie as tie
+
+abbrev given : tie.Start → Batch
+given c = batch (c .args .terms) (c .args .rows) (c .args .a .now) (c .args .d .now) (c .args .b .now)
+
+abbrev third : tie.Start → Bool
+third c = lengthsFit (given c) (c .args .answers) && listFits (c .args .terms) (c .args .rows) (c .args .list)
 
 -- past the first two tests
 module _ (c : tie.Else2) where
@@ -42,19 +50,30 @@ lengths-fit-requires c κs = small c
 list-fits-requires : tie.Need-list-fits-requires
 list-fits-requires c κs = small (c .before)
 
+-- the third, as its calls told
+lengths : (c : tie.After-list-fits) → c .before .lengths-fit .result && c .list-fits .result ≡ third (start (c .before .before))
+lengths c = ap₂ (λ (x y : Bool). x && y) (c .before .lengths-fit .ensures) (c .list-fits .ensures)
+
+-- past the third
+module _ (c : tie.Else3) where
+  abbrev lengths-at : tie.Else2
+  lengths-at = c .before .before .before
+
+  lengths-pass : third (start lengths-at) ≡ true
+  lengths-pass = sym (lengths (c .before)) ∙ not-false _ (c .if3 .left)
+
 returns-3 : tie.Need-returns-3
 unfolding checked
 returns-3 c =
-    let at = c .before .before in
-    let lengths = ap₂ (λ (x y : Bool). x && y) (at .lengths-fit .ensures) (c .before .list-fits .ensures) in
-    rw (terms-pass (at .before), rows-pass (at .before), sym lengths ∙ not-true _ (c .if3 .taken))
+    let at = c .before .before .before in
+    rw (terms-pass at, rows-pass at, sym (lengths (c .before)) ∙ not-true _ (c .if3 .taken))
 
 returns-4 : tie.Need-returns-4
 unfolding checked
 returns-4 c =
-    let at = c .before .before in
-    let lengths = ap₂ (λ (x y : Bool). x && y) (at .lengths-fit .ensures) (c .before .list-fits .ensures) in
-    rw (terms-pass (at .before), rows-pass (at .before), sym lengths ∙ not-false _ (c .if3 .left))
+    let at = lengths-at c in
+    let fit = lengths-equal (given (start at)) _ (both-true _ _ (lengths-pass c) .0) in
+    rw (terms-pass at, rows-pass at, lengths-pass c) (start at .pre (small at .0) (small at .1) (fit .1) (fit .2))
 
 pub run-answer-spec : {M : Type 1} → statement M
 run-answer-spec =

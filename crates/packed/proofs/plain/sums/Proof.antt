@@ -1,10 +1,8 @@
 -- `packed::plain::sums` meets its contract: the rows passed have their two dot products. Assumes nothing.
 use Prim.Native.Nat.{_+_, _-_, _*_, _≤_}
-use mathlib.Core.Path.{_∙_, sym}
+use mathlib.Core.Path.{refl, _∙_, sym}
 use native.Mathlib.Omega.{arith}
-use mir.Syntax.{w32}
 use Rattle.packed.specs.Packed.{batch, highDot, lowDot}
-use Rattle.packed.proofs.Sizes.{kept}
 use Rattle.packed.proofs.Passing.{area-small, row-end}
 use Rattle.packed.proofs.Fill.{Answered, none-answered, room, one-answered, all-answered}
 use borrow.Author.Needs.{needs}
@@ -28,32 +26,24 @@ module _ (c : tie.In-loop Inv-loop μ-loop) where
   inside : c .before .loop .j * start .args .terms + start .args .terms ≤ start .args .rows * start .args .terms
   inside = row-end (start .args .terms) (c .loop-test .taken)
 
-mul-s : tie.Need-mul-s Inv-loop μ-loop
-mul-s c = omega (arith, inside c, area-small (start c .pre .0 .few) (start c .pre .0 .most))
+mul-put-sums : tie.Need-mul-put-sums Inv-loop μ-loop
+mul-put-sums c = omega (arith, inside c, area-small (start c .pre .0 .few) (start c .pre .0 .most))
 
-dot-requires : tie.Need-dot-requires Inv-loop μ-loop
-dot-requires c κs =
-    let ready = start (c .before) .pre .0 in
-    (ready .most, omega (arith, inside (c .before), ready .highs), omega (arith, inside (c .before), ready .rights))
-
-dot-requires-2 : tie.Need-dot-requires-2 Inv-loop μ-loop
-dot-requires-2 c κs =
-    let test = c .before .before in
-    let ready = start test .pre .0 in
-    (ready .most, omega (arith, inside test, ready .lows), omega (arith, inside test, ready .rights))
-
-put-row-requires : tie.Need-put-row-requires Inv-loop μ-loop
-put-row-requires c κs = let test = c .before .before .before in room _ _ _ _ _ (test .loop-test .taken) (test .before .loop .inv)
+put-sums-requires : tie.Need-put-sums-requires Inv-loop μ-loop
+put-sums-requires c κs =
+    let turn = c .before in
+    let ready = start turn .pre .0 in (
+      ready .most,
+      omega (arith, inside turn, ready .highs),
+      omega (arith, inside turn, ready .lows),
+      omega (arith, inside turn, ready .rights),
+      room _ _ _ _ _ (turn .loop-test .taken) (turn .before .loop .inv),
+    )
 
 loop-again : tie.Need-loop-again Inv-loop μ-loop
 loop-again c =
-    let low = c .before .before in
-    let high = low .before in
-    let test = high .before .before in
-    rw (c .before .put-row .ensures)
-    (one-answered _ _ _ _ _ _ _ (test .loop-test .taken) (test .before .loop .inv)
-    (kept w32 (high .dot .result) (high .dot .ok) ∙ high .dot .ensures)
-    (kept w32 (low .dot2 .result) (low .dot2 .ok) ∙ low .dot2 .ensures))
+    let turn = c .before .before .before in
+    rw (c .before .put-sums .ensures) (one-answered _ _ _ _ _ _ _ (turn .loop-test .taken) (turn .before .loop .inv) refl refl)
 
 same-length : tie.Need-same-length Inv-loop μ-loop
 same-length c = c .before .loop .inv .long ∙ sym (c .before .before .pre .1)
@@ -64,5 +54,4 @@ returns c = all-answered _ _ _ _ _ (c .loop-test .left) (c .before .loop .inv)
 pub sums-spec : {M : Type 1} → statement M
 sums-spec =
     tie.close
-    (tie.spec Inv-loop μ-loop loop-holds mul-s dot-requires dot-requires-2 put-row-requires (λ c. search needs) (λ c. search needs)
-    loop-again same-length returns)
+    (tie.spec Inv-loop μ-loop loop-holds mul-put-sums put-sums-requires (λ c. search needs) (λ c. search needs) loop-again same-length returns)
