@@ -14,7 +14,7 @@ use Rattle.packed.specs.Packed.{Batch, runClocks, runList, readAnswers, 
 use Rattle.packed.specs.Calls.{numberOf, clockedRun, ClockedDone, plainRun, PlainDone}
 use Rattle.packed.specs.Parts.{Ready, FedBytes}
 use Rattle.packed.proofs.Fed.{fed-term}
-use Rattle.packed.proofs.Passing.{passed, any-clocks}
+use Rattle.packed.proofs.Passing.{all-passed, any-clocks}
 use Rattle.packed.proofs.Theorem.{RowBytes, PackedRun, packed-run}
 
 module _ (g : Batch) (bytes : (t : ℕ) → t < runClocks (g .terms) (g .rows) → (k : ℕ) → k < g .terms → FedBytes g t k) where
@@ -34,7 +34,7 @@ module _ (g : Batch) (bytes : (t : ℕ) → t < runClocks (g .terms) (g .rows) �
 pub accepted-run : (g : Batch) (os : List ℤ) (ws : List ℕ) → ((j : ℕ) → j < g .rows → RowBytes g j) → numberOf (clockedRun g os ws) ≡ 0 → PackedRun g
 unfolding clockedRun
 accepted-run g os ws bytes ran =
-    let ready = passed g (length os) (eqb (length ws) (runClocks (g .terms) (g .rows))) (length (runList g)) ran .ready in
+    let ready = all-passed g (length os) (eqb (length ws) (runClocks (g .terms) (g .rows))) (length (runList g)) ran .ready in
     packed-run g (ready .some) (ready .most) bytes (ready .fit)
 
 -- ---- the two runs

@@ -11,7 +11,7 @@ use Rattle.slice.specs.Slice.{controlsOf, selectsOf, pathsOf, aSide, dSide, pre
 use Rattle.column.specs.Column.{cascadeInto, shownAt, nextAt, columnShown, columnNext, after}
 use Rattle.packed.specs.declared.Run.the-variants.{Ran, BadTerms, BadRows, BadLength, Overfull}
 use Rattle.packed.specs.Packed.{Batch, batch, fed, runAttributes, runPorts, runRegisters, top, runList, pairs, readAnswers, dot, plainAnswers}
-use Rattle.packed.specs.Calls.{numberOf, clocksOf, placeOf, lengthsFit, allLowest, checked, clockedRun, plainRun}
+use Rattle.packed.specs.Calls.{numberOf, clocksOf, placeOf, lengthsFit, allLowest, sized, checked, clockedRun, plainRun}
 
 -- two rows of one term, (1, −1, 1) and (3, 4, 2); and of two terms
 abbrev two : Batch
@@ -92,7 +92,7 @@ unfolding runList top fed runAttributes runPorts runRegisters pairs dot after co
 runs = record { list = refl; sums = refl; read = refl; slice-0 = (refl, refl, refl); slice-1 = (refl, refl, refl, refl) }
 
 pub refused : Refused
-unfolding clockedRun plainRun checked lengthsFit allLowest runList
+unfolding clockedRun plainRun checked sized lengthsFit allLowest runList
 refused =
     record {
       no-terms = refl;

@@ -73,14 +73,17 @@ abbrev pub refuseRow : Found → Run → Run
 refuseRow Nothing next = next
 refuseRow (At j) next = Overfull j
 
--- "Packed run: 10, 11, 2", and "14, after 2"; list is whether the list has its length, "which number 2 covers too"
-unfoldable pub checked : Batch → (answers : ℕ) → (list : Bool) → (clocks : ℕ) → Run
-checked g answers list clocks =
+-- "Packed run: 10, 11, 2"; list is whether the list has its length, "which number 2 covers too"
+unfoldable pub sized : Batch → (answers : ℕ) → (list : Bool) → Run → Run
+sized g answers list next =
     unless (termsFit (g .terms)) BadTerms
     (unless (rowsFit (g .rows)) BadRows
     (unless (lengthsFit g answers && list) BadLength
-    (refuseRow (lowest (overfull g) (g .rows))
-    (Ran clocks))))
+    next))
+
+-- "14, after 2"
+unfoldable pub checked : Batch → (answers : ℕ) → (list : Bool) → (clocks : ℕ) → Run
+checked g answers list clocks = sized g answers list (refuseRow (lowest (overfull g) (g .rows)) (Ran clocks))
 
 -- `packed_clocked`, of the lent answers os and the lent list ws: "it returns the clocks it stepped, one for each word"
 unfoldable pub clockedRun : Batch → (os : List ℤ) → (ws : List ℕ) → Run

@@ -1,9 +1,10 @@
-// The refusals of both runs, in their order. Nothing is stored.
+// The refusals of both runs but for the rows' own, in their order. Nothing is stored.
 ghost use mathlib.Core.Path.{_≡_};
 ghost use Prim.Native.Nat.{_≤_};
+ghost use Rattle.packed.specs.declared.Run.the-variants.{Ran};
 ghost use Rattle.packed.specs.Packed.{mostTerms, mostRows, batch};
-ghost use Rattle.packed.specs.Calls.{termsFit, rowsFit, lengthsFit, checked};
-ghost use Rattle.packed.specs.Parts.{listFits, Looked};
+ghost use Rattle.packed.specs.Calls.{termsFit, rowsFit, lengthsFit, sized};
+ghost use Rattle.packed.specs.Parts.{listFits};
 use crate::Run;
 
 pub const MOST_TERMS: usize = 8;
@@ -47,8 +48,7 @@ fn list_fits(terms: usize, rows: usize, list: ListLength) -> bool
     }
 }
 
-// `Ran(0)`: nothing is refused, and no clock is stepped yet. The rows were looked at before, so that what the compiler meets
-// last, before the work, is how few terms there are.
+// `Ran(0)`: the terms, the rows and the lengths are right, and no clock is stepped yet.
 pub fn run_answer(
     terms: usize,
     rows: usize,
@@ -57,10 +57,8 @@ pub fn run_answer(
     b: &[i8],
     answers: usize,
     list: ListLength,
-    looked: Run,
 ) -> Run
-    requires { ⌜ Looked (batch terms rows (now a) (now d) (now b)) looked ⌝ }
-    ensures { λ r. ⌜ r ≡ checked (batch terms rows (now (a .entry)) (now (d .entry)) (now (b .entry))) answers (listFits terms rows list) 0 ⌝ }
+    ensures { λ r. ⌜ r ≡ sized (batch terms rows (now (a .entry)) (now (d .entry)) (now (b .entry))) answers (listFits terms rows list) (Ran 0) ⌝ }
 {
     if !terms_fit(terms) {
         return Run::BadTerms;
@@ -72,5 +70,5 @@ pub fn run_answer(
     if !(lengths & list_fits(terms, rows, list)) {
         return Run::BadLength;
     }
-    looked
+    Run::Ran(0)
 }

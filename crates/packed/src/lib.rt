@@ -35,11 +35,14 @@ pub fn packed_clocked(
     ensures { λ r.
         ⌜ ClockedDone (batch terms rows (now (a .entry)) (now (d .entry)) (now (b .entry))) (now (answers .entry)) (now (list .entry)) r (now (answers .exit)) (now (list .exit)) ⌝ }
 {
-    let looked = overfull::rows_answer(terms, rows, d, b);
     let length = ListLength::Words(list.len());
-    let answer = checks::run_answer(terms, rows, a, d, b, answers.len(), length, looked);
+    let answer = checks::run_answer(terms, rows, a, d, b, answers.len(), length);
     let Run::Ran(_) = answer else {
         return answer;
+    };
+    let looked = overfull::rows_answer(terms, rows, d, b);
+    let Run::Ran(_) = looked else {
+        return looked;
     };
     let clocks = clocked::stepped(terms, rows, a, d, b, list);
     clocked::read_answers(terms, rows, &list[..], answers);
@@ -58,19 +61,18 @@ pub fn packed_plain(
     ensures { λ r.
         ⌜ PlainDone (batch terms rows (now (a .entry)) (now (d .entry)) (now (b .entry))) (now (answers .entry)) r (now (answers .exit)) ⌝ }
 {
-    let looked = overfull::rows_answer(terms, rows, d, b);
-    let answer = checks::run_answer(
-        terms,
-        rows,
-        a,
-        d,
-        b,
-        answers.len(),
-        ListLength::NoList,
-        looked,
-    );
+    let answer = checks::run_answer(terms, rows, a, d, b, answers.len(), ListLength::NoList);
     let Run::Ran(_) = answer else {
         return answer;
+    };
+    // Two ways to the work, so that the compiler knows on each how few terms there are.
+    if terms < checks::MOST_TERMS {
+        plain::sums(terms, rows, a, d, b, answers);
+        return Run::Ran(0);
+    }
+    let looked = overfull::rows_answer(terms, rows, d, b);
+    let Run::Ran(_) = looked else {
+        return looked;
     };
     plain::sums(terms, rows, a, d, b, answers);
     Run::Ran(0)

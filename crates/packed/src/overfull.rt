@@ -22,7 +22,8 @@ fn all_lowest(x: &[i8], s: usize) -> bool
     all
 }
 
-// `Ran(0)`, or the lowest overfull row. Rows of fewer terms always fit; eight are looked at only in arrays that have them all.
+// `Ran(0)`, or the lowest overfull row. Rows of fewer terms always fit. It asks nothing of its caller: rows that are not all
+// there are not looked at.
 pub fn rows_answer(terms: usize, rows: usize, d: &[i8], b: &[i8]) -> Run
     ensures { λ r. ⌜ Looked (batch terms rows [] (now (d .entry)) (now (b .entry))) r ⌝ }
 {

@@ -2,11 +2,10 @@
 use mathlib.Core.Path.{_≡_, _∙_, sym, ap₂}
 use mathlib.Core.Bool.{Bool, true, _&&_}
 use Prim.Native.Nat.{_≤_}
-use Rattle.word.proofs.Laws.{both-true}
 use Rattle.packed.specs.Packed.{mostTerms, mostRows, Batch, batch}
-use Rattle.packed.specs.Calls.{termsFit, rowsFit, lengthsFit, checked}
+use Rattle.packed.specs.Calls.{termsFit, rowsFit, lengthsFit, sized}
 use Rattle.packed.specs.Parts.{listFits}
-use Rattle.packed.proofs.Passing.{bounds, lengths-equal}
+use Rattle.packed.proofs.Passing.{bounds}
 use borrow.Author.Needs.{needs}
 use borrow.Author.Tests.{not-true, not-false}
 use Rattle.packed.proofs.checks.run_answer.Statement.{statement}
@@ -33,11 +32,11 @@ module _ (c : tie.Else2) where
   small = (bounds _ mostTerms terms-pass .1, bounds _ mostRows rows-pass .1)
 
 returns : tie.Need-returns
-unfolding checked
+unfolding sized
 returns c = rw (sym (c .before .terms-fit .ensures) ∙ not-true _ (c .if1 .taken))
 
 returns-2 : tie.Need-returns-2
-unfolding checked
+unfolding sized
 returns-2 c =
     rw (
       sym (c .before .before .before .terms-fit .ensures) ∙ not-false _ (c .before .before .if1 .left),
@@ -54,26 +53,17 @@ list-fits-requires c κs = small (c .before)
 lengths : (c : tie.After-list-fits) → c .before .lengths-fit .result && c .list-fits .result ≡ third (start (c .before .before))
 lengths c = ap₂ (λ (x y : Bool). x && y) (c .before .lengths-fit .ensures) (c .list-fits .ensures)
 
--- past the third
-module _ (c : tie.Else3) where
-  abbrev lengths-at : tie.Else2
-  lengths-at = c .before .before .before
-
-  lengths-pass : third (start lengths-at) ≡ true
-  lengths-pass = sym (lengths (c .before)) ∙ not-false _ (c .if3 .left)
-
 returns-3 : tie.Need-returns-3
-unfolding checked
+unfolding sized
 returns-3 c =
     let at = c .before .before .before in
     rw (terms-pass at, rows-pass at, sym (lengths (c .before)) ∙ not-true _ (c .if3 .taken))
 
 returns-4 : tie.Need-returns-4
-unfolding checked
+unfolding sized
 returns-4 c =
-    let at = lengths-at c in
-    let fit = lengths-equal (given (start at)) _ (both-true _ _ (lengths-pass c) .0) in
-    rw (terms-pass at, rows-pass at, lengths-pass c) (start at .pre (small at .0) (small at .1) (fit .1) (fit .2))
+    let at = c .before .before .before in
+    rw (terms-pass at, rows-pass at, sym (lengths (c .before)) ∙ not-false _ (c .if3 .left))
 
 pub run-answer-spec : {M : Type 1} → statement M
 run-answer-spec =

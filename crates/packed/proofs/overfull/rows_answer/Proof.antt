@@ -9,16 +9,16 @@ use mathlib.Core.List.{List, []}
 use lib.ListN.{length}
 use lib.IntN.{ℤ}
 use borrow.Author.Needs.{needs}
-use borrow.Author.Tests.{eqb-true, eq-eqb, ne-eqb}
+use borrow.Author.Tests.{eqb-true, eq-eqb}
 use Rattle.column.specs.declared.refusals.Found.{Found}
 use Rattle.column.specs.declared.refusals.Found.the-variants.{Nothing}
 use Rattle.column.specs.Refusals.{lowest}
-use Rattle.column.proofs.Search.{lowest-at, none-lowest}
+use Rattle.column.proofs.Search.{lowest-at}
 use Rattle.packed.specs.declared.Run.{Run}
 use Rattle.packed.specs.declared.Run.the-variants.{Ran}
 use Rattle.packed.specs.Packed.{mostTerms, Batch, batch}
 use Rattle.packed.specs.Calls.{allLowest, overfull, refuseRow}
-use Rattle.packed.proofs.Passing.{row-end}
+use Rattle.packed.proofs.Passing.{few-terms, row-end}
 use Rattle.packed.proofs.overfull.rows_answer.Statement.{statement}
 use Rattle.packed.proofs.overfull.rows_answer.Tie as tie
 
@@ -36,9 +36,7 @@ given c = batch (c .args .terms) (c .args .rows) [] (c .args .d .now) (c .args .
 
 -- with fewer terms no row is overfull
 returns : tie.Need-returns Inv-loop μ-loop
-returns c most few hd hb =
-    let other = ne-eqb (c .before .args .terms) mostTerms (λ e. omega (arith, e, c .if1 .taken)) in
-    ap told (sym (none-lowest (overfull (given (c .before))) (c .before .args .rows) (λ k h. rw other)))
+returns c most few hd hb = ap told (sym (few-terms (given (c .before)) (omega (arith, c .if1 .taken))))
 
 -- too many rows, and arrays of another length, are none to go by
 returns-2 : tie.Need-returns-2 Inv-loop μ-loop
