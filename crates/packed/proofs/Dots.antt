@@ -20,7 +20,7 @@ Bytes xs s n = (k : ℕ) → k < n → Byte (getD xs (s + k) (pos 0))
 
 module _ (xs ys : List ℤ) (s : ℕ) where
   -- one more product of bytes adds at most 2 ^ 14
-  pub dot-more : (n : ℕ) → Byte (getD xs (s + n) (pos 0)) → Byte (getD ys (s + n) (pos 0))
+  dot-more : (n : ℕ) → Byte (getD xs (s + n) (pos 0)) → Byte (getD ys (s + n) (pos 0))
       → natAbs (dot xs ys s n) ≤ n * 2 ^ 14 → natAbs (dot xs ys s (suc n)) ≤ suc n * 2 ^ 14
   unfolding dot
   dot-more n hx hy h =

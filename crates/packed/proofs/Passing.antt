@@ -21,7 +21,7 @@ use Rattle.packed.specs.declared.Run.{Run}
 use Rattle.packed.specs.declared.Run.the-variants.{Ran, BadTerms, BadRows, BadLength, Overfull}
 use Rattle.packed.specs.Packed.{mostTerms, mostRows, Batch}
 use Rattle.packed.specs.Calls.{numberOf, placeOf, termsFit, rowsFit, lengthsFit, overfull, refuseRow, sized, checked}
-use Rattle.packed.specs.Parts.{Ready}
+use Rattle.packed.specs.Parts.{Ready, Looked}
 use Rattle.packed.proofs.Run.{the-type}
 
 -- a number from 1 to the most
@@ -91,12 +91,8 @@ looked-none g r n is ran = row-pass (lowest (overfull g) (g .rows)) 0 (ap number
 module _ (g : Batch) (answers : ℕ) (list : Bool) where
   -- the terms, the rows and the lengths are right
   pub record Sized : Type 0 where
-    pub some : 1 ≤ g .terms
-    pub most : g .terms ≤ mostTerms
-    pub few : g .rows ≤ mostRows
-    pub highs : length (g .a) ≡ g .rows * g .terms
-    pub lows : length (g .d) ≡ g .rows * g .terms
-    pub rights : length (g .b) ≡ g .rows * g .terms
+    pub ready : ((j : ℕ) → j < g .rows → overfull g j ≡ false) → Ready g
+    pub looked : (r : Run) → Looked g r → r ≡ refuseRow (lowest (overfull g) (g .rows)) (Ran 0)
     pub answers-fit : answers ≡ 2 * g .rows
     pub list-fits : list ≡ true
     pub goes-on : (next : Run) → sized g answers list next ≡ next
@@ -107,14 +103,12 @@ module _ (g : Batch) (answers : ℕ) (list : Bool) where
       let p = three-pass (termsFit (g .terms)) (rowsFit (g .rows)) (lengthsFit g answers && list) next accepted in
       let lengths = both-true (lengthsFit g answers) list (p .2) in
       let equal = lengths-equal g answers (lengths .0) in
-      let terms = bounds (g .terms) mostTerms (p .0) in (
+      let terms = bounds (g .terms) mostTerms (p .0) in
+      let few = bounds (g .rows) mostRows (p .1) .1 in (
         record {
-          some = terms .0;
-          most = terms .1;
-          few = bounds (g .rows) mostRows (p .1) .1;
-          highs = equal .0;
-          lows = equal .1;
-          rights = equal .2;
+          ready =
+              λ fit. record { some = terms .0; most = terms .1; few = few; highs = equal .0; lows = equal .1; rights = equal .2; fit = fit };
+          looked = λ r found. found (terms .1) few (equal .1) (equal .2);
           answers-fit = equal .3;
           list-fits = lengths .1;
           goes-on = λ next. rw (p .0, p .1, p .2);
@@ -131,16 +125,7 @@ module _ (g : Batch) (answers : ℕ) (list : Bool) where
   unfolding checked
   passed is none =
       record {
-        ready =
-            record {
-              some = is .some;
-              most = is .most;
-              few = is .few;
-              highs = is .highs;
-              lows = is .lows;
-              rights = is .rights;
-              fit = λ j h. lowest-none (overfull g) (g .rows) j none h;
-            };
+        ready = is .ready (λ j h. lowest-none (overfull g) (g .rows) j none h);
         ran = λ n. is .goes-on (refuseRow (lowest (overfull g) (g .rows)) (Ran n)) ∙ rw none;
       }
 

@@ -46,7 +46,7 @@ module _ (c : tie.After-rows-answer) where
   right = fits _ _ _ (Ran 0) (ap numberOf (sym (c .before .before .before .run-answer .ensures) ∙ c .before .enum-told .given .1)) .0
 
   found : c .rows-answer .result ≡ refuseRow (lowest (overfull given) (given .rows)) (Ran 0)
-  found = c .rows-answer .ensures (right .most) (right .few) (right .lows) (right .rights)
+  found = right .looked _ (c .rows-answer .ensures)
 
 returns-2 : tie.Need-returns-2
 unfolding clockedRun

@@ -51,7 +51,7 @@ module _ (c : tie.After-rows-answer) where
   sized-at = c .before .before
 
   found : c .rows-answer .result ≡ refuseRow (lowest (overfull (given sized-at)) (given sized-at .rows)) (Ran 0)
-  found = let is = right sized-at in c .rows-answer .ensures (is .most) (is .few) (is .lows) (is .rights)
+  found = right sized-at .looked _ (c .rows-answer .ensures)
 
 returns-3 : tie.Need-returns-3
 unfolding plainRun
