@@ -119,10 +119,14 @@ static void lengths(void)
         fill(&attributes, count * DSP_ATTRIBUTE_USE_SIMD, 0);
         expect_refusal(clock_of(count), DSP_BAD_LENGTH, 0, "21 attributes a slice");
         cleared_column(count);
-        fill(&outputs, count * DSP_OUTPUT_PREADDWRAP, 77);
-        expect_refusal(clock_of(count), DSP_BAD_LENGTH, 0, "5 outputs a slice");
+        fill(&outputs, count * DSP_OUTPUT_CARRY, 77);
+        expect_refusal(clock_of(count), DSP_BAD_LENGTH, 0, "6 outputs a slice");
         fill(&outputs, count * (DSP_OUTPUT_WORDS + 1), 77);
-        expect_refusal(clock_of(count), DSP_BAD_LENGTH, 0, "7 outputs a slice");
+        expect_refusal(clock_of(count), DSP_BAD_LENGTH, 0, "8 outputs a slice");
+        cleared_column(count);
+        fill(&registers, count * DSP_REGISTER_CARRY, 0);
+        expect_refusal(clock_of(count), DSP_BAD_LENGTH, 0, "18 registers a slice");
+        expect_refusal(dsp_clear(count, lend(&registers), registers.length), DSP_BAD_LENGTH, 0, "clearing 18 registers a slice");
     }
 }
 
@@ -143,7 +147,7 @@ static void forbidden(void)
 {
     static const struct { unsigned word; uint64_t value; unsigned number; } settings[] = {
         { DSP_PORT_INMODE, 4, DSP_BAD_INMODE }, { DSP_PORT_OPMODE, 64, DSP_BAD_OPMODE },
-        { DSP_PORT_ALUMODE, 8, DSP_BAD_ALUMODE }, { DSP_PORT_CARRYINSEL, 2, DSP_BAD_CARRYINSEL },
+        { DSP_PORT_ALUMODE, 8, DSP_BAD_ALUMODE }, { DSP_PORT_CARRYINSEL, 4, DSP_BAD_CARRYINSEL },
     };
     for (unsigned k = 0; k < DSP_MOST_SLICES; k++)
         for (unsigned i = 0; i < sizeof settings / sizeof settings[0]; i++) {
@@ -370,6 +374,19 @@ static void draw_pre_adder(uint64_t *a, uint64_t *r, uint64_t *p)
     r[DSP_REGISTER_A2] = boundaries[draw() % 5];
 }
 
+/* A sum of A:B and C or PCIN alone, mode 0, often with A:B all ones: it shows its carry, where it has one and one lane. */
+static void draw_carry(uint64_t *r, uint64_t *p)
+{
+    static const uint64_t opmodes[] = { 51, 51, 51, 19, 3, 83 };
+    p[DSP_PORT_OPMODE] = opmodes[draw() % 6];
+    r[DSP_REGISTER_OPMODE] = opmodes[draw() % 6];
+    p[DSP_PORT_ALUMODE] = r[DSP_REGISTER_ALUMODE] = 0;
+    if (draw() % 2) {
+        p[DSP_PORT_A] = r[DSP_REGISTER_A2] = 0x3fffffff;
+        p[DSP_PORT_B] = r[DSP_REGISTER_B2] = 0x3ffff;
+    }
+}
+
 /*
  * Mostly legal: the lists are kept, and the control words are those of a sum of A:B, C and PCIN, in lanes or not, or of a
  * product.
@@ -398,10 +415,12 @@ static void draw_slice(uint64_t *a, uint64_t *r, uint64_t *p)
     r[DSP_REGISTER_ALUMODE] = draw() % 4;
     p[DSP_PORT_INMODE] = draw_inmode(a);
     r[DSP_REGISTER_INMODE] = draw_inmode(a);
-    p[DSP_PORT_CARRYINSEL] = draw() % 2;
-    r[DSP_REGISTER_CARRYINSEL] = draw() % 2 * 3;
+    p[DSP_PORT_CARRYINSEL] = draw() % 3;
+    r[DSP_REGISTER_CARRYINSEL] = draw() % 2 ? 2 : draw() % 2 * 3;
     if (draw() % 4 == 0)
         draw_pre_adder(a, r, p);
+    if (draw() % 4 == 0)
+        draw_carry(r, p);
 }
 
 size_t draw_column(void)
@@ -414,8 +433,8 @@ size_t draw_column(void)
     return count;
 }
 
-/* The slices of accepted clocks, by their lanes. */
-static unsigned long accepted_in[3];
+/* The slices of accepted clocks, by their lanes; and those that show a carry, by PREG. */
+static unsigned long accepted_in[3], carried_with[2];
 
 static void random_clock(unsigned long *accepted)
 {
@@ -427,8 +446,10 @@ static void random_clock(unsigned long *accepted)
                                   lend(&ports), ports.length, other_outputs, outputs.length);
     uint64_t word = clock_of(count);
     *accepted += word == 0;
-    for (size_t k = 0; word == 0 && k < count; k++)
+    for (size_t k = 0; word == 0 && k < count; k++) {
         accepted_in[ATTRIBUTE(k, USE_SIMD)]++;
+        carried_with[ATTRIBUTE(k, PREG)] += OUTPUT(k, CARRY);
+    }
     expect(word == other, "the archive and the model return the same word");
     expect(memcmp(other_registers, lend(&registers), registers.length * sizeof other_registers[0]) == 0, "the same registers");
     expect(memcmp(other_outputs, lend(&outputs), outputs.length * sizeof other_outputs[0]) == 0, "the same outputs");
@@ -458,6 +479,7 @@ static void by_hand(void)
     flags_by_registers();
     sums_and_flags();
     preaddwrap_by_hand();
+    carry_by_hand();
     why_by_hand();
     clearing();
     adder();
@@ -480,7 +502,10 @@ int main(int argc, char **argv)
     expect(accepted * 10 > calls, "one random clock in ten is accepted");
     printf("slices in accepted clocks: %lu of one lane, %lu of two, %lu of four\n", accepted_in[0], accepted_in[1], accepted_in[2]);
     expect(accepted_in[1] * 20 > calls && accepted_in[2] * 20 > calls, "an accepted slice in lanes for every 20 random clocks");
+    printf("slices that show a carry: %lu of a register, %lu as it settles\n", carried_with[1], carried_with[0]);
+    expect(carried_with[0] * 100 > calls, "a carry that settles for every 100 random clocks");
     tell_preaddwraps(calls);
+    random_wide_sums(calls / 10);
     random_packed_runs();
     random_whys(calls);
     return 0;

@@ -53,6 +53,10 @@ void preaddwrap_by_hand(void);
 void count_preaddwraps(size_t count);
 void tell_preaddwraps(unsigned long clocks);
 
+/* bench/carry.c: the carry by hand, and so many random wide sums. */
+void carry_by_hand(void);
+void random_wide_sums(unsigned long calls);
+
 /* bench/packed.c: the packed runs by hand, and random ones. */
 void packed_by_hand(void);
 void random_packed_runs(void);

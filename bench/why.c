@@ -112,7 +112,7 @@ static const struct { struct lent *lent; unsigned words, word; uint64_t value; }
     { &ports, DSP_PORT_WORDS, DSP_PORT_INMODE, 4 },
     { &ports, DSP_PORT_WORDS, DSP_PORT_OPMODE, 64 },
     { &ports, DSP_PORT_WORDS, DSP_PORT_ALUMODE, 8 },
-    { &ports, DSP_PORT_WORDS, DSP_PORT_CARRYINSEL, 2 },
+    { &ports, DSP_PORT_WORDS, DSP_PORT_CARRYINSEL, 4 },
 };
 
 static void plant(unsigned number, unsigned k)
@@ -156,13 +156,14 @@ static void limits(void)
 
 /* ---- the places, by values worked out here */
 
-/* Slice 1 with a value of its own in each place, over a slice that shows 0x800000000005. */
+/* Slice 1 with a value of its own in each place, over a slice that shows 0x800000000005 and a carry. */
 static void a_value_in_each_place(void)
 {
     asked_column(2);
     ATTRIBUTE(0, PREG) = ATTRIBUTE(1, PREG) = ATTRIBUTE(1, USE_MULT) = 1;
     ATTRIBUTE(1, RND) = 0x100;
     REGISTER(0, P) = 0x800000000005;
+    REGISTER(0, CARRY) = 1;
     REGISTER(1, P) = 0x60007;
     PORT(1, A) = 0x3ffffffe; /* -2 to the multiplier; A:B is 0xfffffff80003 */
     PORT(1, B) = 3;
@@ -184,6 +185,7 @@ static void places(void)
         { 464, 7, { 0xf0, 0, 0, 0xffffc0000000, 0, DSP_PLACE_C, 0, 0, DSP_PLACE_PCIN_SHIFTED,
                     DSP_PLACE_P_BIT47, DSP_RULE_SUM, 0, 0xffffc00000f0 } },
         { 96, 0, { 0, 0, 0, 3, 1, 0, 0, 0, DSP_PLACE_P_SHIFTED, DSP_PLACE_CARRYIN, DSP_RULE_SUM, 0, 4 } },
+        { 48, 2, { 0, 0, 0, 0xf0, 1, 0, 0, 0, DSP_PLACE_C, DSP_PLACE_CARRY_BELOW, DSP_RULE_SUM, 0, 0xf1 } },
     };
     for (size_t i = 0; i < sizeof cases / sizeof cases[0]; i++) {
         a_value_in_each_place();
@@ -203,6 +205,11 @@ static void places_of_zeros(void)
         0, 0, 0, 0, 0, DSP_PLACE_RND, DSP_PLACE_AB, DSP_PLACE_C, DSP_PLACE_C, DSP_PLACE_PCIN_BIT47, DSP_RULE_SUM, 0, 0 };
     static const uint64_t product[DSP_WHY_WORDS] = {
         0, 0, 0, 0, 1, 0, DSP_PLACE_M, 0, DSP_PLACE_PCIN, DSP_PLACE_NOT_PCIN_BIT47, DSP_RULE_NOT_SUM, 0, ONES - 1 };
+    static const uint64_t bottom[DSP_WHY_WORDS] = { [DSP_WHY_CIN_PLACE] = DSP_PLACE_CARRY_BELOW, [DSP_WHY_RULE] = DSP_RULE_SUM };
+    asked_column(1);
+    PORT(0, CARRYINSEL) = 2;
+    PORT(0, CARRYIN) = 1;
+    expect_why(1, 0, bottom, "the carry below the bottom is 0");
     asked_column(1);
     PORT(0, OPMODE) = 319;
     PORT(0, CARRYINSEL) = 3;
@@ -380,8 +387,8 @@ static uint64_t by_its_rule(const uint64_t *v)
 /* ---- random calls */
 
 /* Which operand came from which place, which rules were applied, and where a result was seen, over all answers. */
-static unsigned long answered, in_lanes[3], added, shown, loaded;
-static unsigned long from[DSP_WHY_CIN + 1][DSP_PLACE_NOT_P_BIT47 + 1], by_rule[DSP_RULE_NOT_X_AND_Z + 1];
+static unsigned long answered, in_lanes[3], added, shown, loaded, carried;
+static unsigned long from[DSP_WHY_CIN + 1][DSP_PLACE_CARRY_BELOW + 1], by_rule[DSP_RULE_NOT_X_AND_Z + 1];
 
 static uint64_t draw_opmode(const uint64_t *a, int logic)
 {
@@ -398,9 +405,9 @@ static uint64_t draw_opmode(const uint64_t *a, int logic)
 /* Control words that the slice's attributes allow, for every place and every rule, whichever of register and port is in use. */
 static void draw_controls(const uint64_t *a, uint64_t *r, uint64_t *p)
 {
-    static const uint64_t logic_modes[] = { 4, 5, 6, 7, 12, 13, 14, 15 }, carries[] = { 0, 1, 3, 5, 7 };
+    static const uint64_t logic_modes[] = { 4, 5, 6, 7, 12, 13, 14, 15 }, carries[] = { 0, 1, 2, 3, 5, 7 };
     int logic = draw() % 2 == 0;
-    unsigned carry_count = a[DSP_ATTRIBUTE_PREG] == 1 ? 5 : 3;
+    unsigned carry_count = a[DSP_ATTRIBUTE_PREG] == 1 ? 6 : 4;
     p[DSP_PORT_OPMODE] = draw_opmode(a, logic);
     r[DSP_REGISTER_OPMODE] = draw_opmode(a, logic);
     p[DSP_PORT_ALUMODE] = logic ? logic_modes[draw() % 8] : draw() % 4;
@@ -422,6 +429,16 @@ static void draw_amiss(uint64_t *count, uint64_t *slice)
     }
 }
 
+/* The carry beside a result, by the operands and their places: only a sum of X, Z and CIN in one lane has one, and no product. */
+static uint64_t carry_beside(const uint64_t *v)
+{
+    if (v[DSP_WHY_LANES] != DSP_SIMD_ONE48 || v[DSP_WHY_RULE] != DSP_RULE_SUM || v[DSP_WHY_X_PLACE] == DSP_PLACE_M)
+        return 0;
+    if (v[DSP_WHY_W_PLACE] != DSP_PLACE_ZERO || v[DSP_WHY_Y_PLACE] != DSP_PLACE_ZERO)
+        return 0;
+    return (v[DSP_WHY_X] + v[DSP_WHY_Z] + v[DSP_WHY_CIN]) >> 48;
+}
+
 /* The archive's clock and adder on the same words: the refusal is the clock's, the result is P's and the adder's. */
 static void held_against_the_archive(uint64_t count, uint64_t k, uint64_t word)
 {
@@ -435,11 +452,12 @@ static void held_against_the_archive(uint64_t count, uint64_t k, uint64_t word)
         added++;
     }
     if (ATTRIBUTE(k, PREG) == 0) {
-        expect(OUTPUT(k, P) == v[DSP_WHY_RESULT], "P shows the result");
+        expect(OUTPUT(k, P) == v[DSP_WHY_RESULT] && OUTPUT(k, CARRY) == carry_beside(v), "P shows the result, and its carry");
+        carried += OUTPUT(k, CARRY);
         shown++;
     }
     if (PORT(k, CE) & DSP_CE_P && !(PORT(k, RST) & DSP_RST_P)) {
-        expect(REGISTER(k, P) == v[DSP_WHY_RESULT], "register P loads the result");
+        expect(REGISTER(k, P) == v[DSP_WHY_RESULT] && REGISTER(k, CARRY) == carry_beside(v), "P loads the result, and its carry");
         loaded++;
     }
 }
@@ -448,7 +466,7 @@ static void count_answer(const uint64_t *v)
 {
     answered++;
     for (unsigned operand = DSP_WHY_W; operand <= DSP_WHY_CIN; operand++) {
-        expect(v[operand + DSP_WHY_W_PLACE] <= DSP_PLACE_NOT_P_BIT47, "a place");
+        expect(v[operand + DSP_WHY_W_PLACE] <= DSP_PLACE_CARRY_BELOW, "a place");
         from[operand][v[operand + DSP_WHY_W_PLACE]]++;
     }
     expect(v[DSP_WHY_RULE] <= DSP_RULE_NOT_X_AND_Z && v[DSP_WHY_LANES] <= DSP_SIMD_FOUR12, "a rule, and lanes");
@@ -488,7 +506,8 @@ static const unsigned can_be[] = {
     [DSP_WHY_X] = BIT(ZERO) | BIT(M) | BIT(P) | BIT(AB),
     [DSP_WHY_Y] = BIT(ZERO) | BIT(ONES) | BIT(C),
     [DSP_WHY_Z] = BIT(ZERO) | BIT(PCIN) | BIT(P) | BIT(C) | BIT(PCIN_SHIFTED) | BIT(P_SHIFTED),
-    [DSP_WHY_CIN] = BIT(CARRYIN) | BIT(PCIN_BIT47) | BIT(NOT_PCIN_BIT47) | BIT(P_BIT47) | BIT(NOT_P_BIT47),
+    [DSP_WHY_CIN] = BIT(CARRYIN) | BIT(PCIN_BIT47) | BIT(NOT_PCIN_BIT47) | BIT(P_BIT47) | BIT(NOT_P_BIT47) |
+                    BIT(CARRY_BELOW),
 };
 
 /* How often the rarest place of an operand was met, and that no other was. */
@@ -496,7 +515,7 @@ static unsigned long rarest_place(void)
 {
     unsigned long rarest = answered;
     for (unsigned operand = DSP_WHY_W; operand <= DSP_WHY_CIN; operand++)
-        for (unsigned place = 0; place <= DSP_PLACE_NOT_P_BIT47; place++)
+        for (unsigned place = 0; place <= DSP_PLACE_CARRY_BELOW; place++)
             if (can_be[operand] >> place & 1)
                 rarest = from[operand][place] < rarest ? from[operand][place] : rarest;
             else
@@ -521,7 +540,8 @@ void random_whys(unsigned long calls)
            calls, answered, rarest_place(), rarest_rule());
     expect(rarest_place() * 100 > calls && rarest_rule() * 200 > calls, "every place and every rule, often enough");
     printf("slices in accepted whys: %lu of one lane, %lu of two, %lu of four\n", in_lanes[0], in_lanes[1], in_lanes[2]);
-    printf("their results: %lu given by the adder, %lu shown by P, %lu loaded by P\n", added, shown, loaded);
+    printf("their results: %lu given by the adder, %lu shown by P, of which %lu with a carry, %lu loaded by P\n", added, shown, carried, loaded);
     expect(in_lanes[1] * 20 > calls && in_lanes[2] * 20 > calls, "an accepted why in lanes for every 20");
     expect(added * 10 > calls && shown * 10 > calls && loaded * 10 > calls, "a result of each kind for every 10");
+    expect(carried * 500 > calls, "a carry that is shown for every 500");
 }

@@ -80,6 +80,7 @@ static const char *const place_names[] = {
     [DSP_PLACE_PCIN_SHIFTED] = "PCIN shifted by 17", [DSP_PLACE_P_SHIFTED] = "P shifted by 17", [DSP_PLACE_RND] = "RND",
     [DSP_PLACE_CARRYIN] = "CARRYIN", [DSP_PLACE_PCIN_BIT47] = "PCIN bit 47", [DSP_PLACE_NOT_PCIN_BIT47] = "not PCIN bit 47",
     [DSP_PLACE_P_BIT47] = "P bit 47", [DSP_PLACE_NOT_P_BIT47] = "not P bit 47",
+    [DSP_PLACE_CARRY_BELOW] = "the carry below",
 };
 
 /* Of X and Z. */

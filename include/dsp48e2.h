@@ -26,10 +26,12 @@ extern "C" {
  * OVERFLOW and UNDERFLOW: a P that swings through 0 within its range shows neither any more. Version 3.1 adds dsp_why with
  * its enums, and number 13; what 3.0 has is as it was. Major 4 has 6 outputs a slice, where there were 5: PREADDWRAP is the
  * last, and what 3.1 has is as it was. Version 4.1 takes packed runs of 8 terms, which 4.0 refused by number 10, and adds
- * number 14 for the rows of 8 terms that do not fit; every other call is answered as it was.
+ * number 14 for the rows of 8 terms that do not fit; every other call is answered as it was. Major 5 has 19 registers and 7
+ * outputs a slice, where there were 18 and 6: the carry is the last of both. CARRYINSEL 2 takes it from the slice below,
+ * and number 9 refuses it no more; dsp_why has a place for it.
  */
-#define DSP_VERSION_MAJOR 4
-#define DSP_VERSION_MINOR 1
+#define DSP_VERSION_MAJOR 5
+#define DSP_VERSION_MINOR 0
 
 /* The refusal rule, and what takes a refusal apart. */
 #define DSP_REFUSED (UINT64_C(1) << 48)
@@ -98,7 +100,7 @@ enum dsp_simd {
     DSP_SIMD_FOUR12 = 2
 };
 
-/* A slice's registers: what it holds between edges. */
+/* A slice's registers: what it holds between edges. The carry's loads and clears with P, by CE P and RST P. */
 enum dsp_register {
     DSP_REGISTER_A1 = 0,
     DSP_REGISTER_A2 = 1,
@@ -118,7 +120,8 @@ enum dsp_register {
     DSP_REGISTER_PBD = 15,
     DSP_REGISTER_PDPAST = 16,
     DSP_REGISTER_PBDPAST = 17,
-    DSP_REGISTER_WORDS = 18
+    DSP_REGISTER_CARRY = 18,
+    DSP_REGISTER_WORDS = 19
 };
 
 /* A slice's ports: what it is given in a clock. */
@@ -147,6 +150,11 @@ enum dsp_port {
  * numbers that INMODE lets in, is below -67108864 or above 67108863, so that the 27 bits which go into AD are not it. Inputs
  * kept to signed numbers of 26 bits each never light it. It settles in every slice from what the pre-adder is given in this
  * clock, whether the sum is used or not: no register holds it, and neither ADREG nor PREG delays it.
+ *
+ * CARRY is the carry that the slice above takes by CARRYINSEL 2; the bottom slice takes 0. It settles where the adder is one
+ * lane of 48 bits and adds X, Z and CIN alone, that is with USE_SIMD 0, ALUMODE 0 and the selects of W and Y both 0 in
+ * effect: 1 exactly if X + Z + CIN is at least 2^48. In every other setting it settles to 0, whatever the words are. With
+ * PREG 1 the register's is shown, with PREG 0 the one that settles.
  */
 enum dsp_output {
     DSP_OUTPUT_P = 0,
@@ -155,7 +163,8 @@ enum dsp_output {
     DSP_OUTPUT_OVERFLOW = 3,
     DSP_OUTPUT_UNDERFLOW = 4,
     DSP_OUTPUT_PREADDWRAP = 5,
-    DSP_OUTPUT_WORDS = 6
+    DSP_OUTPUT_CARRY = 6,
+    DSP_OUTPUT_WORDS = 7
 };
 
 /*
@@ -164,7 +173,7 @@ enum dsp_output {
  * while USE_MULT is 1.
  */
 #define DSP_ATTRIBUTE_WIDTHS { 2, 2, 2, 2, 1, 1, 1, 1, 1, 1, 1, 1, 1, 1, 1, 1, 1, 1, 48, 48, 48, 2 }
-#define DSP_REGISTER_WIDTHS { 30, 30, 18, 18, 48, 27, 27, 45, 48, 9, 4, 5, 3, 1, 1, 1, 1, 1 }
+#define DSP_REGISTER_WIDTHS { 30, 30, 18, 18, 48, 27, 27, 45, 48, 9, 4, 5, 3, 1, 1, 1, 1, 1, 1 }
 #define DSP_PORT_WIDTHS { 30, 18, 48, 27, 9, 4, 5, 3, 1, 13, 10 }
 
 /* The bits of the port words CE and RST. */
@@ -259,7 +268,8 @@ enum dsp_place {
     DSP_PLACE_PCIN_BIT47 = 11,     /* the sign of PCIN */
     DSP_PLACE_NOT_PCIN_BIT47 = 12, /* 1 where the sign of PCIN is 0 */
     DSP_PLACE_P_BIT47 = 13,        /* the sign of register P */
-    DSP_PLACE_NOT_P_BIT47 = 14     /* 1 where the sign of register P is 0 */
+    DSP_PLACE_NOT_P_BIT47 = 14,    /* 1 where the sign of register P is 0 */
+    DSP_PLACE_CARRY_BELOW = 15     /* the carry that the slice below shows, 0 at the bottom */
 };
 
 /*

@@ -7,13 +7,13 @@
 
 /* A record must be words and nothing else, or lending it as words is wrong. */
 typedef char attributes_are_22_words[ATTRIBUTE_WORDS == 22 ? 1 : -1];
-typedef char registers_are_18_words[REGISTER_WORDS == 18 ? 1 : -1];
+typedef char registers_are_19_words[REGISTER_WORDS == 19 ? 1 : -1];
 typedef char ports_are_11_words[PORT_WORDS == 11 ? 1 : -1];
-typedef char outputs_are_6_words[OUTPUT_WORDS == 6 ? 1 : -1];
+typedef char outputs_are_7_words[OUTPUT_WORDS == 7 ? 1 : -1];
 typedef char why_is_13_words[WHY_WORDS == 13 ? 1 : -1];
 
 static const unsigned register_width[] = {
-    30, 30, 18, 18, 48, 27, 27, 45, 48, 9, 4, 5, 3, 1, 1, 1, 1, 1
+    30, 30, 18, 18, 48, 27, 27, 45, 48, 9, 4, 5, 3, 1, 1, 1, 1, 1, 1
 };
 static const unsigned port_width[] = { 30, 18, 48, 27, 9, 4, 5, 3, 1, 13, 10 };
 
@@ -190,7 +190,7 @@ static int alumode_wrong(const struct control *ct)
 static int carryinsel_wrong(const struct attributes *at, const struct control *ct)
 {
     switch (ct->carryinsel) {
-    case 0: case 1: case 3: return 0;
+    case 0: case 1: case 2: case 3: return 0;
     case 5: case 7: return !at->preg;
     default: return 1;
     }
@@ -251,7 +251,7 @@ static uint64_t check_controls(uint64_t count, const struct attributes *at,
 
 /* What goes from slice to slice. */
 struct cascade {
-    uint64_t a, b, p;
+    uint64_t a, b, p, carry;
 };
 
 static uint64_t shift17(uint64_t word)
@@ -275,11 +275,12 @@ static void load(uint64_t *reg, uint64_t in, const struct ports *po, unsigned ce
 }
 
 static uint64_t carry_in(const struct attributes *at, const struct registers *rg,
-                         const struct ports *po, uint64_t carryinsel, uint64_t pcin)
+                         const struct ports *po, uint64_t carryinsel, const struct cascade *below)
 {
     switch (carryinsel) {
-    case 1: return !(pcin >> 47);
-    case 3: return pcin >> 47;
+    case 1: return !(below->p >> 47);
+    case 2: return below->carry;
+    case 3: return below->p >> 47;
     case 5: return !(rg->p >> 47);
     case 7: return rg->p >> 47;
     default: return at->carryinreg ? rg->carryin : po->carryin;
@@ -288,7 +289,7 @@ static uint64_t carry_in(const struct attributes *at, const struct registers *rg
 
 /* The wires that the registers load from. */
 struct wires {
-    uint64_t ain, bin, ad, m, p, pd, pbd;
+    uint64_t ain, bin, ad, m, p, pd, pbd, carry;
     uint64_t preaddwrap; /* shown only: no register loads it */
 };
 
@@ -325,14 +326,22 @@ static void multiply(const struct attributes *at, const struct registers *rg,
     w->m = (uint64_t)(as_signed(left, 27) * as_signed(right, 18)) & ONES(45);
 }
 
-/* Settles the unit's side: w->p, w->pd and w->pbd. */
+/* ONE48, ALUMODE 0, W select 0 and Y select 0: elsewhere the carry is 0 (02, Ask 7). */
+static int shows_carry(const struct attributes *at, const struct control *ct)
+{
+    return at->use_simd == ONE48 && ct->alumode == 0 && (ct->opmode >> 7) == 0 &&
+           (ct->opmode >> 2 & 3) == 0;
+}
+
+/* Settles the unit's side: w->p, w->carry, w->pd and w->pbd. */
 static void compute(const struct attributes *at, const struct registers *rg,
                     const struct ports *po, const struct control *ct,
-                    uint64_t apath, uint64_t bpath, uint64_t pcin, struct wires *w)
+                    uint64_t apath, uint64_t bpath, const struct cascade *below, struct wires *w)
 {
     uint64_t mpath = extend45(at->mreg ? rg->m : w->m);
     uint64_t cpath = at->creg ? rg->c : po->c;
     uint64_t wv = 0, xv = 0, yv = 0, zv = 0, differ;
+    uint64_t cin = carry_in(at, rg, po, ct->carryinsel, below);
 
     switch (ct->opmode & 3) {
     case 1: xv = mpath; break;
@@ -344,10 +353,10 @@ static void compute(const struct attributes *at, const struct registers *rg,
     case 3: yv = cpath; break;
     }
     switch (ct->opmode >> 4 & 7) {
-    case 1: zv = pcin; break;
+    case 1: zv = below->p; break;
     case 2: zv = rg->p; break;
     case 3: zv = cpath; break;
-    case 5: zv = shift17(pcin); break;
+    case 5: zv = shift17(below->p); break;
     case 6: zv = shift17(rg->p); break;
     }
     switch (ct->opmode >> 7) {
@@ -355,8 +364,8 @@ static void compute(const struct attributes *at, const struct registers *rg,
     case 2: wv = at->rnd; break;
     case 3: wv = cpath; break;
     }
-    w->p = split_unit(wv, xv, yv, zv, carry_in(at, rg, po, ct->carryinsel, pcin), ct->alumode,
-                      at->use_simd);
+    w->p = split_unit(wv, xv, yv, zv, cin, ct->alumode, at->use_simd);
+    w->carry = shows_carry(at, ct) && xv + zv + cin > ONES48;
     differ = w->p ^ at->pattern;
     w->pd = (differ & ~at->mask & ONES48) == 0;
     w->pbd = (~differ & ~at->mask & ONES48) == 0;
@@ -379,6 +388,7 @@ static void edge(const struct attributes *at, struct registers *rg,
     load(&rg->pbdpast, rg->pbd, po, CE_P, RST_P);
     load(&rg->pd, w->pd, po, CE_P, RST_P);
     load(&rg->pbd, w->pbd, po, CE_P, RST_P);
+    load(&rg->carry, w->carry, po, CE_P, RST_P);
     load(&rg->opmode, po->opmode, po, CE_CTRL, RST_CTRL);
     load(&rg->carryinsel, po->carryinsel, po, CE_CTRL, RST_CTRL);
     load(&rg->alumode, po->alumode, po, CE_ALUMODE, RST_ALUMODE);
@@ -395,14 +405,14 @@ static void slice(const struct attributes *at, struct registers *rg, const struc
                   const struct control *ct, struct cascade *cas, struct outputs *out)
 {
     struct wires w;
-    uint64_t apath, bpath, pcin = cas->p;
+    uint64_t apath, bpath;
 
     w.ain = at->a_input ? cas->a : po->a;
     w.bin = at->b_input ? cas->b : po->b;
     apath = at->areg == 0 ? w.ain : rg->a2;
     bpath = at->breg == 0 ? w.bin : rg->b2;
     multiply(at, rg, po, ct->inmode, apath, bpath, &w);
-    compute(at, rg, po, ct, apath, bpath, pcin, &w);
+    compute(at, rg, po, ct, apath, bpath, cas, &w);
     out->p = at->preg ? rg->p : w.p;
     out->patterndetect = at->preg ? rg->pd : w.pd;
     out->patternbdetect = at->preg ? rg->pbd : w.pbd;
@@ -411,9 +421,11 @@ static void slice(const struct attributes *at, struct registers *rg, const struc
     out->underflow = at->preg && rg->pbdpast && !rg->pd && !rg->pbd;
     /* Of what goes into AD in this clock, whether AD and P are registers or not (02, Ask 4). */
     out->preaddwrap = w.preaddwrap;
+    out->carry = at->preg ? rg->carry : w.carry;
     cas->a = at->areg == 2 && at->acascreg == 1 ? rg->a1 : apath;
     cas->b = at->breg == 2 && at->bcascreg == 1 ? rg->b1 : bpath;
     cas->p = out->p;
+    cas->carry = out->carry;
     edge(at, rg, po, &w);
 }
 
@@ -430,7 +442,7 @@ uint64_t column_clock(uint64_t count,
     const struct ports *po = (const struct ports *)ports;
     struct outputs *out = (struct outputs *)outputs;
     struct control ct[COLUMN_TALLEST];
-    struct cascade cas = { 0, 0, 0 };
+    struct cascade cas = { 0, 0, 0, 0 };
     uint64_t k, refused = column_check_count(count);
 
     if (refused)
@@ -468,7 +480,8 @@ uint64_t column_clear(uint64_t count, uint64_t *registers, size_t registers_leng
 enum {
     PLACE_ZERO, PLACE_M, PLACE_P, PLACE_AB, PLACE_ONES, PLACE_C, PLACE_PCIN,
     PLACE_PCIN_SHIFTED, PLACE_P_SHIFTED, PLACE_RND, PLACE_CARRYIN,
-    PLACE_PCIN_SIGN, PLACE_NOT_PCIN_SIGN, PLACE_P_SIGN, PLACE_NOT_P_SIGN, PLACES
+    PLACE_PCIN_SIGN, PLACE_NOT_PCIN_SIGN, PLACE_P_SIGN, PLACE_NOT_P_SIGN,
+    PLACE_CARRY_BELOW, PLACES
 };
 enum {
     RULE_NONE, RULE_SUM, RULE_SUM_NOT_Z, RULE_NOT_SUM, RULE_DIFFERENCE,
@@ -485,7 +498,7 @@ static const uint64_t z_from[] = {
     PLACE_ZERO, PLACE_PCIN_SHIFTED, PLACE_P_SHIFTED, PLACE_ZERO
 };
 static const uint64_t cin_from[] = {
-    PLACE_CARRYIN, PLACE_NOT_PCIN_SIGN, PLACE_ZERO, PLACE_PCIN_SIGN,
+    PLACE_CARRYIN, PLACE_NOT_PCIN_SIGN, PLACE_CARRY_BELOW, PLACE_PCIN_SIGN,
     PLACE_ZERO, PLACE_NOT_P_SIGN, PLACE_ZERO, PLACE_P_SIGN
 };
 
@@ -508,8 +521,10 @@ static uint64_t rule_of(uint64_t alumode, int y_is_ones)
 
 /* What stands in each place, from the registers before and after an edge that loads them all. */
 static void fill_places(const struct attributes *at, const struct registers *before,
-                        const struct registers *after, uint64_t pcin, uint64_t *value)
+                        const struct registers *after, const struct outputs *below,
+                        uint64_t *value)
 {
+    uint64_t pcin = below ? below->p : 0;
     uint64_t apath = (at->areg ? before : after)->a2;
     uint64_t bpath = (at->breg ? before : after)->b2;
 
@@ -528,16 +543,18 @@ static void fill_places(const struct attributes *at, const struct registers *bef
     value[PLACE_NOT_PCIN_SIGN] = !(pcin >> 47);
     value[PLACE_P_SIGN] = before->p >> 47;
     value[PLACE_NOT_P_SIGN] = !(before->p >> 47);
+    value[PLACE_CARRY_BELOW] = below ? below->carry : 0;
 }
 
 static void explain(const struct attributes *at, const struct registers *before,
-                    const struct registers *after, uint64_t pcin, struct why *why)
+                    const struct registers *after, const struct outputs *below,
+                    struct why *why)
 {
     uint64_t opmode = (at->opmodereg ? before : after)->opmode;
     uint64_t alumode = (at->alumodereg ? before : after)->alumode;
     uint64_t value[PLACES];
 
-    fill_places(at, before, after, pcin, value);
+    fill_places(at, before, after, below, value);
     why->w_place = w_from[opmode >> 7];
     why->x_place = x_from[opmode & 3];
     why->y_place = y_from[opmode >> 2 & 3];
@@ -589,7 +606,8 @@ uint64_t column_why(uint64_t count,
                            (const uint64_t *)po, ports_length, (uint64_t *)out, count * OUTPUT_WORDS);
     if (refused)
         return refused;
-    explain(&at[slice], &rg[slice], &after[slice], slice ? out[slice - 1].p : 0, (struct why *)why);
+    explain(&at[slice], &rg[slice], &after[slice], slice ? &out[slice - 1] : NULL,
+            (struct why *)why);
     return 0;
 }
 
@@ -673,7 +691,7 @@ uint64_t column_packed(uint64_t terms, uint64_t rows,
         return refused;
     memset(rg, 0, sizeof rg);
     for (clock = 0; clock < clocks; clock++) {
-        struct cascade cas = { 0, 0, 0 };
+        struct cascade cas = { 0, 0, 0, 0 };
         struct outputs out = { .p = 0 };
 
         for (k = 0; k < terms; k++) {

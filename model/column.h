@@ -29,6 +29,7 @@ struct registers {
     uint64_t a1, a2, b1, b2, c, d, ad, m, p;
     uint64_t opmode, alumode, inmode, carryinsel, carryin;
     uint64_t pd, pbd, pdpast, pbdpast;
+    uint64_t carry;
 };
 
 struct ports {
@@ -38,6 +39,7 @@ struct ports {
 struct outputs {
     uint64_t p, patterndetect, patternbdetect, overflow, underflow;
     uint64_t preaddwrap;
+    uint64_t carry;
 };
 
 /* Where a slice's P came from: the settled operands, the place of each, the rule. */

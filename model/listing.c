@@ -121,9 +121,10 @@ static void print_outputs(const struct outputs *outputs, uint64_t count)
     for (k = 0; k < count; k++) {
         const struct outputs *o = &outputs[k];
 
-        printf("O\t%llu\t%u\t%llu\t%u\t%u\t%u\t%u\t%u\n", clocks, k, (unsigned long long)o->p,
+        printf("O\t%llu\t%u\t%llu\t%u\t%u\t%u\t%u\t%u\t%u\n", clocks, k, (unsigned long long)o->p,
                (unsigned)o->patterndetect, (unsigned)o->patternbdetect,
-               (unsigned)o->overflow, (unsigned)o->underflow, (unsigned)o->preaddwrap);
+               (unsigned)o->overflow, (unsigned)o->underflow, (unsigned)o->preaddwrap,
+               (unsigned)o->carry);
     }
 }
 

@@ -40,6 +40,12 @@ pub fn settle(mode: AluMode, lanes: Lanes, operands: Operands) -> i64 {
     signed(result, 48)
 }
 
+/// Tells whether the true sum of X, Z and the carry, as 48-bit patterns, leaves 48 bits.
+pub fn carries(operands: Operands) -> bool {
+    let sum = pattern(operands.x, 48) + pattern(operands.z, 48) + u64::from(operands.carry);
+    sum >> 48 != 0
+}
+
 /// The result of one lane, not yet cut to its width.
 fn one_lane(mode: AluMode, operands: Operands) -> i64 {
     let Operands { w, x, y, z, carry } = operands;

@@ -81,6 +81,7 @@ pub enum AluMode {
 pub enum CarryInSel {
     Path,
     NotPcinSign,
+    CarryBelow,
     PcinSign,
     NotPSign,
     PSign,
@@ -222,6 +223,7 @@ impl CarryInSel {
         match raw {
             0 => Some(CarryInSel::Path),
             1 => Some(CarryInSel::NotPcinSign),
+            2 => Some(CarryInSel::CarryBelow),
             3 => Some(CarryInSel::PcinSign),
             5 if attributes.p_held => Some(CarryInSel::NotPSign),
             7 if attributes.p_held => Some(CarryInSel::PSign),

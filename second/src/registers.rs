@@ -23,10 +23,11 @@ pub struct Registers {
     pub pbd: bool,
     pub pd_past: bool,
     pub pbd_past: bool,
+    pub carry_out: bool,
 }
 
 impl Registers {
-    pub const WORDS: usize = 18;
+    pub const WORDS: usize = 19;
 
     /// Nothing when one of the words is over its width.
     pub fn read(words: &[u64]) -> Option<Registers> {
@@ -50,6 +51,7 @@ impl Registers {
             pbd: flag(w[15])?,
             pd_past: flag(w[16])?,
             pbd_past: flag(w[17])?,
+            carry_out: flag(w[18])?,
         })
     }
 
@@ -74,6 +76,7 @@ impl Registers {
             self.pbd.into(),
             self.pd_past.into(),
             self.pbd_past.into(),
+            self.carry_out.into(),
         ]
     }
 }

@@ -20,6 +20,7 @@ pub enum Place {
     NotPcinSign = 12,
     PSign = 13,
     NotPSign = 14,
+    CarryBelow = 15,
 }
 
 impl Place {

@@ -15,6 +15,7 @@ pub struct Cascade {
     pub a: i64,
     pub b: i64,
     pub p: i64,
+    pub carry: bool,
 }
 
 /// The dynamic controls in effect, already judged.
@@ -35,10 +36,11 @@ pub struct Outputs {
     pub overflow: bool,
     pub underflow: bool,
     pub preaddwrap: bool,
+    pub carry_out: bool,
 }
 
 impl Outputs {
-    pub const WORDS: usize = 6;
+    pub const WORDS: usize = 7;
 
     pub fn words(&self) -> [u64; Self::WORDS] {
         [
@@ -48,17 +50,19 @@ impl Outputs {
             self.overflow.into(),
             self.underflow.into(),
             self.preaddwrap.into(),
+            self.carry_out.into(),
         ]
     }
 }
 
-/// The unit in one clock: its settings, what was selected for it, its result.
+/// The unit in one clock: its settings, what was selected for it, what it gives.
 #[derive(Clone, Copy, Debug)]
 pub struct Unit {
     pub mode: AluMode,
     pub lanes: Lanes,
     pub selection: Selection,
     pub result: i64,
+    pub carry_out: bool,
 }
 
 /// Every wire the edge or the outside looks at, before the edge.
@@ -101,13 +105,15 @@ impl Wired<'_> {
         let differ = unit.result ^ att.pattern;
         let pd = differ & !att.mask == 0;
         let pbd = !differ & !att.mask == 0;
+        let Unit { result: p, carry_out, .. } = unit;
         // Nothing that settles has a past, so neither flow is flagged here.
-        let settled = Outputs { p: unit.result, pd, pbd, preaddwrap, ..Outputs::default() };
+        let settled = Outputs { p, pd, pbd, preaddwrap, carry_out, ..Outputs::default() };
         let outputs = self.outputs(settled);
         let above = Cascade {
             a: if att.a.early_tap { reg.a1 } else { a_path },
             b: if att.b.early_tap { reg.b1 } else { b_path },
             p: outputs.p,
+            carry: outputs.carry_out,
         };
         Shown { a_input, b_input, ad, product, unit, pd, pbd, outputs, above }
     }
@@ -134,8 +140,18 @@ impl Wired<'_> {
     /// The unit at work on what was selected for it.
     fn unit(&self, selection: Selection) -> Unit {
         let (mode, lanes) = (self.controls.alumode, self.attributes.lanes);
-        let result = alu::settle(mode, lanes, selection.operands());
-        Unit { mode, lanes, selection, result }
+        let operands = selection.operands();
+        let result = alu::settle(mode, lanes, operands);
+        let carry_out = self.lets_carry_out() && alu::carries(operands);
+        Unit { mode, lanes, selection, result, carry_out }
+    }
+
+    /// Tells whether a carry may leave the unit (02, Ask 7).
+    fn lets_carry_out(&self) -> bool {
+        let Controls { opmode, alumode, .. } = *self.controls;
+        // By the selects: a product at Y leaves its value to X, but is no Y 0.
+        let x_and_z_alone = opmode.w == W::Zero && opmode.y == Y::Zero;
+        self.attributes.lanes == Lanes::One48 && alumode == AluMode::Sum && x_and_z_alone
     }
 
     fn select(&self, a_path: i64, b_path: i64, m_path: i64) -> Selection {
@@ -178,6 +194,7 @@ impl Wired<'_> {
         match self.controls.carryinsel {
             CarryInSel::Path => Place::CarryInPath.gives(path),
             CarryInSel::NotPcinSign => Place::NotPcinSign.gives(self.below.p >= 0),
+            CarryInSel::CarryBelow => Place::CarryBelow.gives(self.below.carry),
             CarryInSel::PcinSign => Place::PcinSign.gives(self.below.p < 0),
             CarryInSel::NotPSign => Place::NotPSign.gives(reg.p >= 0),
             CarryInSel::PSign => Place::PSign.gives(reg.p < 0),
@@ -200,6 +217,8 @@ impl Wired<'_> {
             underflow: reg.pbd_past && unmatched,
             // No register holds it.
             preaddwrap: settled.preaddwrap,
+            // Handed up as it is shown, so never a clock ahead of P.
+            carry_out: reg.carry_out,
         }
     }
 }
@@ -248,5 +267,6 @@ pub fn edge(attributes: &Attributes, old: &Registers, ports: &Ports, shown: &Sho
         pbd: next(old.pbd, shown.pbd, ports, E::P, R::P),
         pd_past: next(old.pd_past, old.pd, ports, E::P, R::P),
         pbd_past: next(old.pbd_past, old.pbd, ports, E::P, R::P),
+        carry_out: next(old.carry_out, shown.unit.carry_out, ports, E::P, R::P),
     }
 }

@@ -23,20 +23,21 @@ const CE_P: u64 = 256;
 const RST_P: u64 = 32;
 
 /// One accepted clock: the registers after it and the outputs it showed, but for
-/// PREADDWRAP.
-fn clocked(preg: u64, registers: [u64; 18], ports: [u64; 11]) -> ([u64; 18], [u64; 5]) {
+/// PREADDWRAP and CARRYOUT.
+fn clocked(preg: u64, registers: [u64; 19], ports: [u64; 11]) -> ([u64; 19], [u64; 5]) {
     let mut attributes = [0; 22];
     (attributes[10], attributes[20]) = (preg, HIGHEST as u64);
-    let (after, [shown @ .., preaddwrap]) = one_slice::clocked(&attributes, &registers, &ports);
-    // The pre-adder adds 0 and 0.
-    assert_eq!(preaddwrap, 0);
+    let (after, [shown @ .., preaddwrap, carry_out]) =
+        one_slice::clocked(&attributes, &registers, &ports);
+    // The pre-adder adds 0 and 0, and X is 0 throughout.
+    assert_eq!((preaddwrap, carry_out), (0, 0));
     (after, shown)
 }
 
 /// The four marks shown while PD, PBD, PDPAST and PBDPAST are held and C settles.
 fn marks(preg: u64, held: [u64; 4], c: u64) -> [u64; 4] {
-    let mut registers = [0; 18];
-    registers[14..].copy_from_slice(&held);
+    let mut registers = [0; 19];
+    registers[14..18].copy_from_slice(&held);
     let (_, [_, shown @ ..]) = clocked(preg, registers, [0, 0, c, 0, SHOW_C, 0, 0, 0, 0, CE_P, 0]);
     shown
 }
@@ -97,7 +98,7 @@ fn no_flag_without_the_register_of_p() {
 fn accumulates(trace: &[(i64, i64, [u64; 4])]) {
     // Modulo 2^48, adding a step is subtracting it with its sign turned.
     for (alumode, sign) in [(0, 1), (3, -1)] {
-        let mut registers = [0; 18];
+        let mut registers = [0; 19];
         for &(step, sum, expected) in trace {
             let c = (sign * step) as u64 & ONES;
             registers = clocked(1, registers, [0, 0, c, 0, ADD_C, alumode, 0, 0, 0, CE_P, 0]).0;
@@ -184,14 +185,14 @@ fn first_sum_has_no_past() {
 fn flag_stands_while_p_is_kept() {
     for (c, flagged) in [(0, OVERFLOW), (ONES, UNDERFLOW)] {
         let load = |c| [0, 0, c, 0, SHOW_C, 0, 0, 0, 0, CE_P, 0];
-        let (inside, _) = clocked(1, [0; 18], load(c));
+        let (inside, _) = clocked(1, [0; 19], load(c));
         let (outside, _) = clocked(1, inside, load(1 << 46));
         let (kept, shown) = clocked(1, outside, [0; 11]);
         assert_eq!((kept, &shown[1..]), (outside, &flagged[..]));
         // The reset, enabled or not, shows it once more and leaves nothing to flag.
         for enable in [0, CE_P] {
             let (reset, shown) = clocked(1, kept, [0, 0, 0, 0, 0, 0, 0, 0, 0, enable, RST_P]);
-            assert_eq!((reset, &shown[1..]), ([0; 18], &flagged[..]));
+            assert_eq!((reset, &shown[1..]), ([0; 19], &flagged[..]));
         }
     }
 }

@@ -13,12 +13,12 @@ const FOUR12: u64 = 2;
 /// A:B, Y the port C and Z the register P.
 struct Slice {
     attributes: [u64; 22],
-    registers: [u64; 18],
+    registers: [u64; 19],
     ports: [u64; 11],
 }
 
 fn slice(lanes: u64, alumode: u64, [w, x, y, z]: [u64; 4], carryin: u64) -> Slice {
-    let mut words = Slice { attributes: [0; 22], registers: [0; 18], ports: [0; 11] };
+    let mut words = Slice { attributes: [0; 22], registers: [0; 19], ports: [0; 11] };
     (words.attributes[10], words.attributes[18], words.attributes[21]) = (1, w, lanes);
     words.registers[8] = z;
     // W 2, Z 2, Y 3, X 3, and the enable of P.
@@ -28,7 +28,7 @@ fn slice(lanes: u64, alumode: u64, [w, x, y, z]: [u64; 4], carryin: u64) -> Slic
 
 impl Slice {
     /// The registers after one accepted clock.
-    fn clocked(&self) -> [u64; 18] {
+    fn clocked(&self) -> [u64; 19] {
         clocked(&self.attributes, &self.registers, &self.ports).0
     }
 

@@ -10,7 +10,7 @@ const P12: &str = "P\t0\t5\t7\t0\t15\t0\t0\t0\t0\t0\t0\n";
 
 #[test]
 fn the_worked_example() {
-    assert_eq!(played(format!("{N1}{A0}{P12}")), "O\t0\t0\t12\t0\t0\t0\t0\t0\nE\t1\n");
+    assert_eq!(played(format!("{N1}{A0}{P12}")), "O\t0\t0\t12\t0\t0\t0\t0\t0\t0\nE\t1\n");
 }
 
 #[test]
@@ -32,7 +32,7 @@ fn missing_newlines() {
     assert_eq!(played("N\t25"), "R\t12\t0\t1\n");
     assert_eq!(played("N\t25\n"), "R\t1\t0\t0\n");
     assert_eq!(played(format!("{N1}{}", A0.trim_end())), "R\t12\t0\t2\n");
-    let shown = "O\t0\t0\t12\t0\t0\t0\t0\t0\n";
+    let shown = "O\t0\t0\t12\t0\t0\t0\t0\t0\t0\n";
     assert_eq!(played(format!("{N1}{A0}{P12}P")), format!("{shown}R\t12\t1\t4\n"));
 }
 
@@ -82,7 +82,7 @@ fn a_failed_read_prints_no_end() {
     let mut printed = Vec::new();
     let input = std::io::BufReader::new(Failing(listing.as_bytes()));
     assert!(second::listing::play(input, &mut printed).is_err());
-    assert_eq!(printed, b"O\t0\t0\t12\t0\t0\t0\t0\t0\n");
+    assert_eq!(printed, b"O\t0\t0\t12\t0\t0\t0\t0\t0\t0\n");
 }
 
 #[test]
@@ -134,7 +134,7 @@ fn settings(multiplies: u64, numbers: usize) -> String {
 
 #[test]
 fn lengths_of_a_line() {
-    let shown = "O\t0\t0\t12\t0\t0\t0\t0\t0\n";
+    let shown = "O\t0\t0\t12\t0\t0\t0\t0\t0\t0\n";
     for numbers in [21, 22] {
         let listing = format!("{N1}{}{P12}", settings(0, numbers));
         assert_eq!(played(listing), format!("{shown}E\t1\n"), "{numbers}");
@@ -156,10 +156,10 @@ fn both_lengths_in_one_listing() {
     let (one, two, four) = (A0, A0.replace('\n', "\t1\n"), A0.replace('\n', "\t2\n"));
     // One lane has P 0, which is the pattern as it stands.
     let shown = [
-        "O\t0\t0\t0\t1\t0\t0\t0\t0\n",
-        "O\t0\t1\t281474959933440\t0\t0\t0\t0\t0\n",
-        "O\t0\t2\t281474976706560\t0\t0\t0\t0\t0\n",
-        "O\t0\t3\t0\t1\t0\t0\t0\t0\nE\t1\n",
+        "O\t0\t0\t0\t1\t0\t0\t0\t0\t0\n",
+        "O\t0\t1\t281474959933440\t0\t0\t0\t0\t0\t0\n",
+        "O\t0\t2\t281474976706560\t0\t0\t0\t0\t0\t0\n",
+        "O\t0\t3\t0\t1\t0\t0\t0\t0\t0\nE\t1\n",
     ];
     let clock = sum.repeat(4);
     assert_eq!(played(format!("N\t4\n{one}{two}{four}{one}{clock}")), shown.concat());

@@ -11,6 +11,9 @@ use second::refusal::REFUSED;
 /// The attribute words of one slice.
 const ATTRIBUTES: usize = 22;
 
+/// The register words of one slice.
+const REGISTERS: usize = 19;
+
 /// A column's words, to be spoiled word by word.
 #[derive(Clone)]
 struct Words {
@@ -25,9 +28,9 @@ fn zeros(count: usize) -> Words {
     Words {
         count: count as u64,
         attributes: vec![0; ATTRIBUTES * count],
-        registers: vec![0; 18 * count],
+        registers: vec![0; REGISTERS * count],
         ports: vec![0; 11 * count],
-        outputs: vec![9; 6 * count],
+        outputs: vec![9; 7 * count],
     }
 }
 
@@ -62,8 +65,8 @@ fn at_each_slice(number: u64, spoil: impl Fn(&mut Words, usize)) {
 fn number_00_accepted() {
     assert_eq!((1..=24).map(|count| zeros(count).clock()).sum::<u64>(), 0);
     assert_eq!(
-        answer("clear 1 18 1 2 3 4 5 6 7 8 9 1 2 3 4 5 6 7 8 9").unwrap(),
-        format!("0 18{}", " 0".repeat(18))
+        answer("clear 1 19 1 2 3 4 5 6 7 8 9 1 2 3 4 5 6 7 8 9 1").unwrap(),
+        format!("0 19{}", " 0".repeat(19))
     );
 }
 
@@ -85,10 +88,11 @@ fn number_02_length() {
         lent.resize(lent.len() + which % 2 * 2 - 1, 0);
         assert_eq!(words.clock(), REFUSED + 2);
     }
-    assert_eq!(
-        answer("clear 1 17 1 0 0 0 0 0 0 0 0 0 0 0 0 0 0 0 0").unwrap().split(' ').next(),
-        Some("281474976710658")
-    );
+    for length in [0, 18, 20, 38] {
+        let lent = stretches(&[&vec![1; length]]);
+        let refused = format!("281474976710658 {lent}");
+        assert_eq!(answer(&format!("clear 1 {lent}")).unwrap(), refused);
+    }
     for call in [
         "packed 1 1 2 0 0 1 0 1 0 2 0 0 5 0 0 0 0 0",
         "packed 1 1 1 0 0 1 0 2 0 0 5 0 0 0 0 0",
@@ -162,7 +166,7 @@ fn number_03_lanes_in_its_order() {
         let mut words = zeros(6);
         words.registers[8] = 1 << 48;
         words.ports[2] = 1 << 48;
-        (words.ports[4], words.ports[5], words.ports[6], words.ports[7]) = (64, 8, 4, 2);
+        (words.ports[4], words.ports[5], words.ports[6], words.ports[7]) = (64, 8, 4, 4);
         fault(&mut words);
         words.attributes[ATTRIBUTES * 5] = 3;
         assert_eq!(words.clock(), REFUSED + 256 * 4 + 3);
@@ -173,9 +177,9 @@ fn number_03_lanes_in_its_order() {
 
 #[test]
 fn number_04_register() {
-    let widths = [30, 30, 18, 18, 48, 27, 27, 45, 48, 9, 4, 5, 3, 1, 1, 1, 1, 1];
+    let widths = [30, 30, 18, 18, 48, 27, 27, 45, 48, 9, 4, 5, 3, 1, 1, 1, 1, 1, 1];
     for (word, width) in widths.into_iter().enumerate() {
-        at_each_slice(4, |words, slice| words.registers[18 * slice + word] = 1 << width);
+        at_each_slice(4, |words, slice| words.registers[REGISTERS * slice + word] = 1 << width);
         let mut words = zeros(1);
         words.registers[word] = (1 << width) - 1;
         assert_eq!(words.clock(), 0);
@@ -199,7 +203,7 @@ fn number_06_inmode() {
         at_each_slice(6, |words, slice| words.ports[11 * slice + 6] = inmode);
         at_each_slice(6, |words, slice| {
             words.attributes[ATTRIBUTES * slice + 13] = 1;
-            words.registers[18 * slice + 11] = inmode;
+            words.registers[REGISTERS * slice + 11] = inmode;
         });
     }
 }
@@ -211,7 +215,7 @@ fn number_07_opmode() {
         at_each_slice(7, |words, slice| words.ports[11 * slice + 4] = opmode);
         at_each_slice(7, |words, slice| {
             words.attributes[ATTRIBUTES * slice + 11] = 1;
-            words.registers[18 * slice + 9] = opmode;
+            words.registers[REGISTERS * slice + 9] = opmode;
         });
     }
     let mut words = zeros(1);
@@ -228,7 +232,7 @@ fn number_08_alumode() {
         at_each_slice(8, |words, slice| words.ports[11 * slice + 5] = alumode);
         at_each_slice(8, |words, slice| {
             words.attributes[ATTRIBUTES * slice + 12] = 1;
-            words.registers[18 * slice + 10] = alumode;
+            words.registers[REGISTERS * slice + 10] = alumode;
         });
     }
     for alumode in [4, 5, 6, 7, 12, 13, 14, 15] {
@@ -247,12 +251,24 @@ fn number_08_alumode() {
 
 #[test]
 fn number_09_carryinsel() {
-    for carryinsel in [2, 4, 6, 5, 7] {
+    for carryinsel in [4, 6, 5, 7] {
         at_each_slice(9, |words, slice| words.ports[11 * slice + 7] = carryinsel);
         at_each_slice(9, |words, slice| {
             words.attributes[ATTRIBUTES * slice + 15] = 1;
-            words.registers[18 * slice + 12] = carryinsel;
+            words.registers[REGISTERS * slice + 12] = carryinsel;
         });
+    }
+    // The carry of the slice below may be taken by any slice (02, Ask 7).
+    for carryinsel in [0, 1, 2, 3] {
+        let mut words = zeros(24);
+        (0..24).for_each(|slice| words.ports[11 * slice + 7] = carryinsel);
+        assert_eq!(words.clock(), 0);
+        let mut words = zeros(24);
+        for slice in 0..24 {
+            words.attributes[ATTRIBUTES * slice + 15] = 1;
+            words.registers[REGISTERS * slice + 12] = carryinsel;
+        }
+        assert_eq!(words.clock(), 0);
     }
 }
 
@@ -292,12 +308,12 @@ fn number_12_line() {
 fn checks_go_over_all_slices_before_the_next() {
     let faults: [fn(&mut Words, usize); 7] = [
         |words, slice| words.attributes[ATTRIBUTES * slice + 6] = 2,
-        |words, slice| words.registers[18 * slice + 13] = 2,
+        |words, slice| words.registers[REGISTERS * slice + 13] = 2,
         |words, slice| words.ports[11 * slice + 8] = 2,
         |words, slice| words.ports[11 * slice + 6] |= 4,
         |words, slice| words.ports[11 * slice + 4] |= 64,
         |words, slice| words.ports[11 * slice + 5] = 8,
-        |words, slice| words.ports[11 * slice + 7] = 2,
+        |words, slice| words.ports[11 * slice + 7] = 4,
     ];
     for first in 0..7 {
         for later in first + 1..7 {

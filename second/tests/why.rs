@@ -246,6 +246,29 @@ fn each_carryinsel() {
 }
 
 #[test]
+fn the_carry_shown_below() {
+    // The slice below holds one carry and another settles: all ones and 1, or and 0.
+    for (preg, held, settling, cin) in [(0, 0, 1, 1), (0, 1, 0, 0), (1, 0, 1, 0), (1, 1, 0, 1)] {
+        let ports = [
+            (port::A, 0x3FFF_FFFF),
+            (port::B, 0x3FFFF),
+            (port::C, settling),
+            (port::OPMODE, 51),
+            (port::CE, CE_P),
+        ];
+        let below = slice(&[(att::PREG, preg)], &[(reg::CARRYOUT, held)], &ports);
+        // CARRYIN says the contrary.
+        let ports = [(port::CARRYINSEL, 2), (port::CARRYIN, 1 - cin)];
+        let column = [below, slice(&[], &[], &ports)];
+        assert_eq!(explained(&column, 1), [0, 0, 0, 0, cin, 0, 0, 0, 0, 15, 1, 0, cin]);
+    }
+    // Below the bottom it is 0, and the place is the same.
+    let ports = [(port::CARRYINSEL, 2), (port::CARRYIN, 1)];
+    let words = slice(&[(att::PREG, 1)], &[(reg::CARRYOUT, 1)], &ports);
+    assert_eq!(alone(words), [0, 0, 0, 0, 0, 0, 0, 0, 0, 15, 1, 0, 0]);
+}
+
+#[test]
 fn the_carryin_path() {
     for cin in [0, 1] {
         let expected = [0, 0, 0, 0, cin, 0, 0, 0, 0, 10, 1, 0, cin];
@@ -316,7 +339,9 @@ fn each_mode_with_both_ys() {
 
 #[test]
 fn logic_gives_the_carry_it_ignores() {
-    for (select, cin, place) in [(0, 1, 10), (1, 1, 12), (3, 0, 11), (5, 0, 14), (7, 1, 13)] {
+    for (select, cin, place) in
+        [(0, 1, 10), (1, 1, 12), (2, 0, 15), (3, 0, 11), (5, 0, 14), (7, 1, 13)]
+    {
         let mut words = in_mode(12, false);
         (words.attributes[att::PREG], words.registers[reg::P]) = (1, 1 << 47);
         words.ports[port::CARRYINSEL] = select;
@@ -399,14 +424,14 @@ fn controls_are_those_in_effect() {
         (port::OPMODE, 64),
         (port::ALUMODE, 8),
         (port::INMODE, 1),
-        (port::CARRYINSEL, 2),
+        (port::CARRYINSEL, 4),
     ];
     // 100 less 13 times 6.
     let words = slice(&attributes, &held, &ports);
     assert_eq!(alone(words), [0, 78, 0, 100, 0, 0, 1, 0, 2, 13, 4, 0, 22]);
     // And forbidden registers that nothing reads.
     let mut words = in_mode(13, true);
-    words.registers[reg::OPMODE..=reg::CARRYINSEL].copy_from_slice(&[64, 8, 1, 2]);
+    words.registers[reg::OPMODE..=reg::CARRYINSEL].copy_from_slice(&[64, 8, 1, 4]);
     assert_eq!(alone(words), [0, 12, ONES, 10, 1, 0, 3, 4, 5, 10, 10, 0, ONES - 2]);
 }
 
@@ -512,12 +537,12 @@ fn number_13_slice() {
 /// A fault for each number from 3 to 9, in one slice.
 const FAULTS: [fn(&mut Question, usize); 7] = [
     |column, slice| column.attributes[22 * slice + att::CREG] = 2,
-    |column, slice| column.registers[18 * slice + reg::CARRYIN] = 2,
+    |column, slice| column.registers[19 * slice + reg::CARRYIN] = 2,
     |column, slice| column.ports[11 * slice + port::CARRYIN] = 2,
     |column, slice| column.ports[11 * slice + port::INMODE] = 4,
     |column, slice| column.ports[11 * slice + port::OPMODE] = 64,
     |column, slice| column.ports[11 * slice + port::ALUMODE] = 8,
-    |column, slice| column.ports[11 * slice + port::CARRYINSEL] = 2,
+    |column, slice| column.ports[11 * slice + port::CARRYINSEL] = 4,
 ];
 
 #[test]

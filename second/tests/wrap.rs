@@ -6,10 +6,8 @@
 mod one_slice;
 mod played;
 
-use one_slice::{att, port, reg, slice, stretches, Set, Slice};
+use one_slice::{att, port, reg, slice, Set, Slice};
 use played::played;
-use second::calls::answer;
-use second::refusal::REFUSED;
 
 const HIGHEST: i64 = 67108863;
 const LOWEST: i64 = -67108864;
@@ -65,7 +63,7 @@ fn loading(inmode: u64, d: i64, a: i64) -> [u64; 11] {
 fn the_hand_example() {
     let (after, shown) = preadding(FROM_D, HIGHEST, 1).clocked();
     // Nothing is selected, so P is 0, which is the pattern.
-    assert_eq!((after[reg::AD], shown), (67108864, [0, 1, 0, 0, 0, 1]));
+    assert_eq!((after[reg::AD], shown), (67108864, [0, 1, 0, 0, 0, 1, 0]));
 }
 
 #[test]
@@ -272,10 +270,10 @@ fn shown_before_the_product_of_ad() {
         (words.ports[port::B], words.ports[port::OPMODE]) = (1, 5);
         words.clocked().1
     };
-    assert_eq!(shown(0, 7), [281474909601792, 0, 0, 0, 0, 1]);
-    assert_eq!(shown(1, 7), [7, 0, 0, 0, 0, 1]);
+    assert_eq!(shown(0, 7), [281474909601792, 0, 0, 0, 0, 1, 0]);
+    assert_eq!(shown(1, 7), [7, 0, 0, 0, 0, 1, 0]);
     // A P of 0 is the pattern.
-    assert_eq!(shown(1, 0), [0, 1, 0, 0, 0, 1]);
+    assert_eq!(shown(1, 0), [0, 1, 0, 0, 0, 1, 0]);
 }
 
 #[test]
@@ -374,7 +372,8 @@ fn each_slice_has_its_own() {
         for wrapping in 0..count {
             let sum = |at| preadding(FROM_D, HIGHEST, i64::from(at == wrapping));
             let column: Vec<Slice> = (0..count).map(sum).collect();
-            let shown = |at| format!("O\t0\t{at}\t0\t1\t0\t0\t0\t{}\n", u64::from(at == wrapping));
+            let shown =
+                |at| format!("O\t0\t{at}\t0\t1\t0\t0\t0\t{}\t0\n", u64::from(at == wrapping));
             let expected: String = (0..count).map(shown).collect();
             assert_eq!(first_clock(&column), expected + "E\t1\n");
         }
@@ -391,16 +390,16 @@ fn a_comes_from_the_slice_below() {
     };
     let printed = first_clock(&[sum(1, 0), sum(0, 1), sum(0, 0), sum(1, 1)]);
     let shown = [
-        "O\t0\t0\t0\t1\t0\t0\t0\t1\n",
-        "O\t0\t1\t0\t1\t0\t0\t0\t1\n",
-        "O\t0\t2\t0\t1\t0\t0\t0\t0\n",
-        "O\t0\t3\t0\t1\t0\t0\t0\t0\nE\t1\n",
+        "O\t0\t0\t0\t1\t0\t0\t0\t1\t0\n",
+        "O\t0\t1\t0\t1\t0\t0\t0\t1\t0\n",
+        "O\t0\t2\t0\t1\t0\t0\t0\t0\t0\n",
+        "O\t0\t3\t0\t1\t0\t0\t0\t0\t0\nE\t1\n",
     ];
     assert_eq!(printed, shown.concat());
 }
 
 #[test]
-fn lines_have_six_outputs() {
+fn lines_have_the_mark_as_sixth_output() {
     // Both multiply D + A or D - A by B; the upper slice holds AD and P.
     let listing = "N\t2\n\
         A\t0\t0\t0\t0\t0\t0\t0\t0\t0\t0\t0\t0\t0\t0\t0\t0\t1\t1\t0\t0\t0\n\
@@ -414,26 +413,12 @@ fn lines_have_six_outputs() {
     // Below: 67108863 + 1 is -67108864, then 67108863, then -67108864 twice.
     // Above: AD takes 67108863 in clock 0, so P has three times that in clock 2, and
     // with it leaves the pattern, which is 0.
-    let printed = "O\t0\t0\t281474909601792\t0\t0\t0\t0\t1\n\
-        O\t0\t1\t0\t0\t0\t0\t0\t1\n\
-        O\t1\t0\t67108863\t0\t0\t0\t0\t0\n\
-        O\t1\t1\t0\t1\t0\t0\t0\t0\n\
-        O\t2\t0\t281474842492928\t0\t0\t0\t0\t1\n\
-        O\t2\t1\t201326589\t0\t0\t1\t0\t1\n\
+    let printed = "O\t0\t0\t281474909601792\t0\t0\t0\t0\t1\t0\n\
+        O\t0\t1\t0\t0\t0\t0\t0\t1\t0\n\
+        O\t1\t0\t67108863\t0\t0\t0\t0\t0\t0\n\
+        O\t1\t1\t0\t1\t0\t0\t0\t0\t0\n\
+        O\t2\t0\t281474842492928\t0\t0\t0\t0\t1\t0\n\
+        O\t2\t1\t201326589\t0\t0\t1\t0\t1\t0\n\
         E\t3\n";
     assert_eq!(played(listing), printed);
-}
-
-#[test]
-fn number_02_takes_six_outputs_a_slice() {
-    for count in [1, 2, 5, 6, 7, 24] {
-        for (outputs, refusal) in [(0, 2), (5, 2), (6, 3), (7, 2)] {
-            // The attributes are wrong as well, which waits for the lengths.
-            let slices = |words: usize, value: u64| vec![value; words * count];
-            let [attributes, registers, ports] = [slices(22, 3), slices(18, 0), slices(11, 0)];
-            let lent = stretches(&[&attributes, &registers, &ports, &slices(outputs, 9)]);
-            let reply = answer(&format!("clock {count} {lent}")).unwrap();
-            assert_eq!(reply, format!("{} {lent}", REFUSED + refusal), "{outputs} a slice");
-        }
-    }
 }

@@ -2,12 +2,14 @@
 
 use std::io::{self, Write};
 
+use crate::carry_calls;
 use crate::draw::{self, height, Menu, LOGIC_MODES};
 use crate::faults::{all, Fault};
 use crate::oracle::Controls;
 use crate::packed_calls;
 use crate::random::Random;
 use crate::why_calls;
+use crate::wide_sums;
 use crate::words::*;
 use crate::wrap_calls;
 
@@ -24,18 +26,22 @@ pub struct Clock {
 /// Writes the sweeps and then so many random calls.
 pub fn write(out: &mut impl Write, random: &mut Random, count: u64) -> io::Result<()> {
     sweep_adder(out)?;
-    sweep_counts_and_lengths(out, random)?;
+    sweep_counts(out, random)?;
+    sweep_lengths(out, random)?;
     sweep_faults(out, random)?;
     sweep_lanes(out, random)?;
     wrap_calls::sweep(out, random)?;
+    carry_calls::sweep(out, random)?;
+    wide_sums::sweep(out, random)?;
     packed_calls::sweep(out, random)?;
     why_calls::sweep(out, random)?;
     for _ in 0..count {
-        match random.below(23) {
-            0..=3 => random_adder(out, random)?,
-            4..=15 => any_clock(random).write(out)?,
-            16 => random_clear(out, random)?,
-            17..=19 => packed_calls::any(random).write(out)?,
+        match random.below(46) {
+            0..=7 => random_adder(out, random)?,
+            8..=30 => any_clock(random).write(out)?,
+            31 => wide_sums::any_calls(out, random)?,
+            32..=33 => random_clear(out, random)?,
+            34..=39 => packed_calls::any(random).write(out)?,
             _ => why_calls::any(random).write(out)?,
         }
     }
@@ -85,6 +91,24 @@ impl Clock {
         }
         clock
     }
+
+    /// The registers of a slice.
+    pub fn held(&mut self, slice: usize) -> &mut [u64] {
+        &mut self.registers[slice * REGISTER_WORDS..][..REGISTER_WORDS]
+    }
+
+    /// The ports of a slice.
+    pub fn given(&mut self, slice: usize) -> &mut [u64] {
+        &mut self.ports[slice * 11..][..11]
+    }
+
+    /// Puts a word where a slice takes it from, as an attribute says: a port or a register.
+    pub fn put(&mut self, slice: usize, attribute: usize, [port, register]: [usize; 2], word: u64) {
+        match self.attributes[slice * 22 + attribute] {
+            0 => self.given(slice)[port] = word,
+            _ => self.held(slice)[register] = word,
+        }
+    }
 }
 
 /// Takes a pre-adder to its ends by most of the words that it might read, but not by all of them,
@@ -117,6 +141,10 @@ fn registers(random: &mut Random, at: &Attributes, menu: &Menu) -> Registers {
     }
     if at[at::ALUMODEREG] == 1 {
         registers[rg::ALUMODE] = if logic { random.pick(&LOGIC_MODES) } else { random.below(4) };
+    }
+    if at[at::OPMODEREG] == 1 && random.percent(10) {
+        registers[rg::OPMODE] = random.pick(&menu.carry_opmodes);
+        registers[rg::ALUMODE] = 0;
     }
     if at[at::INMODEREG] == 1 {
         registers[rg::INMODE] = random.pick(&menu.inmodes);
@@ -154,28 +182,35 @@ fn sweep_adder(out: &mut impl Write) -> io::Result<()> {
     Ok(())
 }
 
-/// Counts without a column, and each length wrong by itself.
-fn sweep_counts_and_lengths(out: &mut impl Write, random: &mut Random) -> io::Result<()> {
+/// Counts without a column, and the largest that has one.
+fn sweep_counts(out: &mut impl Write, random: &mut Random) -> io::Result<()> {
     for count in [0, 25, 26, 256, 257, 1 << 32, (1 << 32) + 1, 1 << 63, u64::MAX] {
         let mut clock = Clock::legal(random, 1);
         clock.count = count;
         clock.write(out)?;
         writeln!(out, "clock {count} 0 0 0 0")?;
         writeln!(out, "clear {count} 0")?;
-        writeln!(out, "clear {count} {}", stretch(&[7; 18]))?;
+        writeln!(out, "clear {count} {}", stretch(&[7; REGISTER_WORDS]))?;
     }
     for height in [25, 24] {
-        let lent = [22, 18, 11, OUTPUT_WORDS].map(|words| stretch(&vec![0; height * words]));
+        let lent =
+            [22, REGISTER_WORDS, 11, OUTPUT_WORDS].map(|words| stretch(&vec![0; height * words]));
         writeln!(out, "clock {height} {}", lent.join(" "))?;
-        writeln!(out, "clear {height} {}", stretch(&vec![1; height * 18]))?;
+        writeln!(out, "clear {height} {}", stretch(&vec![1; height * REGISTER_WORDS]))?;
     }
+    Ok(())
+}
+
+/// Each length wrong by itself.
+fn sweep_lengths(out: &mut impl Write, random: &mut Random) -> io::Result<()> {
     for height in 1..=24 {
         for which in 0..4 {
             let legal = Clock::legal(random, height);
-            let right = [22, 18, 11, OUTPUT_WORDS][which] * height as usize;
-            // The second to last is the attributes' length without USE_SIMD, and the outputs'
-            // without PREADDWRAP.
-            for length in [0, right - 1, right + 1, right - height as usize, right * 2] {
+            let right = [22, REGISTER_WORDS, 11, OUTPUT_WORDS][which] * height as usize;
+            // A word less a slice is the attributes' length without USE_SIMD, and the registers'
+            // and the outputs' without the carry; two less is the outputs' without PREADDWRAP.
+            let less = |words: usize| right - words * height as usize;
+            for length in [0, right - 1, right + 1, less(1), less(2), right * 2] {
                 let mut clock = legal.clone();
                 let lent = [
                     &mut clock.attributes,
@@ -187,7 +222,8 @@ fn sweep_counts_and_lengths(out: &mut impl Write, random: &mut Random) -> io::Re
                 clock.write(out)?;
             }
         }
-        for length in [height * 18, height * 18 - 1, height * 18 + 1, 0, height] {
+        let right = height * REGISTER_WORDS as u64;
+        for length in [right, right - 1, right + 1, right - height, 0, height] {
             let words: Vec<u64> = (0..length).map(|_| random.word()).collect();
             writeln!(out, "clear {height} {}", stretch(&words))?;
         }
@@ -197,11 +233,11 @@ fn sweep_counts_and_lengths(out: &mut impl Write, random: &mut Random) -> io::Re
 
 /// Gives one slice of a clock call a fault.
 fn strike(clock: &mut Clock, fault: &Fault, slice: usize) {
-    let ports = &mut clock.ports[slice * 11..][..11];
+    let ports = clock.given(slice);
     let mut po: Ports = ports.try_into().unwrap();
     fault.strike(&mut po);
     ports.copy_from_slice(&po);
-    fault.store(&mut clock.registers[slice * 18..][..18]);
+    fault.store(clock.held(slice));
 }
 
 /// Each cause of 3 to 9 at each slice, some in the company of others.
@@ -217,7 +253,7 @@ fn sweep_faults(out: &mut impl Write, random: &mut Random) -> io::Result<()> {
         for slice in 0..24 {
             let height = random.within(slice as u64 + 1, 24);
             let mut clock = faulty(random, height, &faults, &[]);
-            clock.registers[slice * 18 + word] = random.pick(&[1 << width, u64::MAX]);
+            clock.held(slice)[word] = random.pick(&[1 << width, u64::MAX]);
             clock.write(out)?;
         }
     }
@@ -238,10 +274,10 @@ fn sweep_lanes(out: &mut impl Write, random: &mut Random) -> io::Result<()> {
         for slice in 0..3 {
             let at = &mut clock.attributes[slice * 22..][..22];
             (at[at::PREG], at[at::RND], at[at::USE_SIMD]) = (1, w, slice as u64);
-            clock.registers[slice * 18 + rg::P] = z;
+            clock.held(slice)[rg::P] = z;
             let (a, b, opmode) = (x >> 18, x & ones(18), 2 << 7 | 2 << 4 | 3 << 2 | 3);
             let po = [a, b, y, 0, opmode, mode as u64, 0, 0, carry as u64, CE_ALL, 0];
-            clock.ports[slice * 11..][..11].copy_from_slice(&po);
+            clock.given(slice).copy_from_slice(&po);
         }
         clock.write(out)?;
     }
@@ -314,6 +350,6 @@ pub fn any_clock(random: &mut Random) -> Clock {
 
 fn random_clear(out: &mut impl Write, random: &mut Random) -> io::Result<()> {
     let count = random.within(0, 25);
-    let words: Vec<u64> = (0..count * 18).map(|_| random.word()).collect();
+    let words: Vec<u64> = (0..count * REGISTER_WORDS as u64).map(|_| random.word()).collect();
     writeln!(out, "clear {count} {}", stretch(&words))
 }

@@ -6,13 +6,15 @@ use crate::book::Book;
 use crate::draw::{height, Growing};
 use crate::faults::{all, meet, Fault};
 use crate::random::Random;
+use crate::wide_sums;
 use crate::words::{ones, Column};
 
 pub fn write(book: &mut Book, random: &mut Random, count: u64) -> io::Result<()> {
     let faults = all();
     for _ in 0..count {
         match random.below(100) {
-            0..=91 => book.column("random legal column", &legal(random))?,
+            0..=89 => book.column("random legal column", &legal(random))?,
+            90..=91 => book.column("random wide sums", &wide_sums::any(random))?,
             92..=97 => book.column("random column with a fault", &faulty(random, &faults))?,
             _ => spoiled(book, random)?,
         }

@@ -67,11 +67,13 @@ pub fn detector(random: &mut Random) -> (u64, u64) {
 }
 
 /// The controls a slice may have: all OPMODEs, those that take the product
-/// (or all again, if it has none), those that go with a logic mode, and so on.
+/// (or all again, if it has none), those that go with a logic mode, those that
+/// do not hide a carry, and so on.
 pub struct Menu {
     pub opmodes: Vec<u64>,
     pub product_opmodes: Vec<u64>,
     pub logic_opmodes: Vec<u64>,
+    pub carry_opmodes: Vec<u64>,
     pub inmodes: Vec<u64>,
     pub carryinsels: Vec<u64>,
 }
@@ -86,8 +88,10 @@ impl Menu {
         let carryinsel = |carryinsel| Controls { carryinsel, ..Controls::default() };
         let opmodes: Vec<u64> = (0..512).filter(|mode| legal(with(*mode, 0))).collect();
         let takes_product = |mode: &u64| at[at::USE_MULT] != 1 || mode & 15 == 5;
+        let takes_no_w_and_y = |mode: &u64| mode & (3 << 7 | 3 << 2) == 0;
         Menu {
             product_opmodes: opmodes.iter().copied().filter(takes_product).collect(),
+            carry_opmodes: opmodes.iter().copied().filter(takes_no_w_and_y).collect(),
             opmodes,
             logic_opmodes: (0..512).filter(|mode| legal(with(*mode, 4))).collect(),
             inmodes: (0..32).filter(|mode| legal(inmode(*mode))).collect(),
@@ -112,6 +116,9 @@ fn candidate(random: &mut Random, menu: &Menu) -> Ports {
         (false, false) => &menu.opmodes,
     });
     po[po::ALUMODE] = if logic { random.pick(&LOGIC_MODES) } else { random.below(4) };
+    if random.percent(10) {
+        (po[po::OPMODE], po[po::ALUMODE]) = (random.pick(&menu.carry_opmodes), 0);
+    }
     po[po::INMODE] = random.pick(&menu.inmodes);
     po[po::CARRYINSEL] = random.pick(&menu.carryinsels);
     po[po::CE] = match random.below(10) {

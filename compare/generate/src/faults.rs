@@ -91,7 +91,7 @@ fn control_causes() -> Vec<Cause> {
             causes.push((8, needs, vec![(po::ALUMODE, alumode), (po::OPMODE, opmode)]));
         }
     }
-    for carryinsel in [2, 4, 6] {
+    for carryinsel in [4, 6] {
         causes.push((9, vec![], vec![(po::CARRYINSEL, carryinsel)]));
     }
     for carryinsel in [5, 7] {

@@ -113,7 +113,7 @@ impl Controls {
 
     pub fn carryinsel_refused(self, at: &Attributes) -> bool {
         match self.carryinsel {
-            0 | 1 | 3 => false,
+            0..=3 => false,
             5 | 7 => at[at::PREG] == 0,
             _ => true,
         }

@@ -1,6 +1,7 @@
 //! The items that the clocks of a column meet.
 
 use crate::oracle::Controls;
+use crate::seen_carry::SeenCarries;
 use crate::seen_flags::SeenSums;
 use crate::seen_lanes::SeenLanes;
 use crate::seen_wrap::SeenWraps;
@@ -15,6 +16,7 @@ pub struct Seen {
     lanes: SeenLanes,
     sums: SeenSums,
     wraps: SeenWraps,
+    carries: SeenCarries,
     flag: [usize; 2],
     shown: usize,
 }
@@ -51,7 +53,7 @@ struct Line {
 
 const EDGE_NAMES: [&str; 5] = ["0", "1", "all ones", "sign alone", "all but the sign"];
 const Z_LEGAL: [u64; 6] = [0, 1, 2, 3, 5, 6];
-const SELECTS_LEGAL: [u64; 5] = [0, 1, 3, 5, 7];
+const SELECTS_LEGAL: [u64; 6] = [0, 1, 2, 3, 5, 7];
 const LOGIC: [u64; 8] = [4, 5, 6, 7, 12, 13, 14, 15];
 const FLAGS: [&str; 4] = ["PATTERNDETECT", "PATTERNBDETECT", "OVERFLOW", "UNDERFLOW"];
 
@@ -131,6 +133,7 @@ impl Seen {
         let lanes = SeenLanes::new(table);
         let sums = SeenSums::new(table);
         let wraps = SeenWraps::new(table);
+        let carries = SeenCarries::new(table);
         let names = ["flag with PREG 0", "flag with PREG 1"];
         let flags = [&FLAGS[..2], &FLAGS[..]];
         Seen {
@@ -140,6 +143,7 @@ impl Seen {
             lanes,
             sums,
             wraps,
+            carries,
             flag: std::array::from_fn(|preg| table.group(names[preg], flags[preg])),
             shown: table.group("shown P", EDGE_NAMES),
         }
@@ -199,7 +203,8 @@ impl Seen {
         let carry = place(&SELECTS_LEGAL, controls.carryinsel);
         table.met(self.control.carryinsel, carry);
         if controls.alumode < 4 {
-            table.met(self.control.arithmetic, controls.alumode as usize * 5 + carry);
+            let item = controls.alumode as usize * SELECTS_LEGAL.len() + carry;
+            table.met(self.control.arithmetic, item);
         } else {
             let mode = place(&LOGIC, controls.alumode);
             table.met(self.control.logic, mode * 2 + (controls.y() / 2) as usize);
@@ -248,7 +253,7 @@ impl Seen {
     }
 
     /// Counts what the accepted clocks of a column showed, slice by slice; says where a mark of the
-    /// pre-adder is not the oracle's.
+    /// pre-adder, a carry or a wide sum is not the oracle's.
     pub fn shown(
         &self,
         table: &mut Table,
@@ -260,7 +265,8 @@ impl Seen {
             self.outputs(table, at, shown);
         }
         self.sums.column(table, attributes, ports, shown);
-        self.wraps.column(table, attributes, ports, shown)
+        self.wraps.column(table, attributes, ports, shown)?;
+        self.carries.column(table, attributes, ports, shown)
     }
 
     /// Counts P and the four flags that one slice showed.
@@ -286,7 +292,7 @@ fn edge(table: &mut Table, group: usize, value: u64, width: u32) {
 }
 
 /// Counts the highest slice that a chain from slice 0 reaches unbroken.
-fn reach(table: &mut Table, group: usize, linked: impl Iterator<Item = bool>) {
+pub fn reach(table: &mut Table, group: usize, linked: impl Iterator<Item = bool>) {
     let links = linked.skip(1).take_while(|linked| *linked).count();
     if links > 0 {
         table.met(group, links - 1);

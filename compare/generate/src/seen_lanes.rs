@@ -20,7 +20,7 @@ pub const CAUSES: [&str; 3] =
     ["USE_SIMD over 2", "USE_SIMD 1 with USE_MULT 1", "USE_SIMD 2 with USE_MULT 1"];
 
 const LOGIC: [u64; 8] = [4, 5, 6, 7, 12, 13, 14, 15];
-const SELECTS: [u64; 5] = [0, 1, 3, 5, 7];
+const SELECTS: [u64; 6] = [0, 1, 2, 3, 5, 7];
 const SHIFTS: [u64; 2] = [5, 6];
 const FLAGS: [&str; 4] = ["PATTERNDETECT", "PATTERNBDETECT", "OVERFLOW", "UNDERFLOW"];
 

@@ -87,7 +87,7 @@ impl Asked {
 }
 
 /// The names of the places.
-const NAMES: [&str; 15] = [
+const NAMES: [&str; 16] = [
     "0",
     "M",
     "P",
@@ -103,6 +103,7 @@ const NAMES: [&str; 15] = [
     "not PCIN bit 47",
     "P bit 47",
     "not P bit 47",
+    "carry below",
 ];
 
 /// An operand, its places whose value is always the same, and its other places.
@@ -148,7 +149,7 @@ impl Operands {
                 table.group(&format!("why {operand} with sign"), other.iter().flat_map(signs))
             }),
             carry: ["arithmetic", "logic"].map(|sort| {
-                let carries = (place::CARRYIN..=place::NOT_P_SIGN).flat_map(bits);
+                let carries = (place::CARRYIN..=place::CARRY_BELOW).flat_map(bits);
                 table.group(&format!("why CIN with {sort} rule, from"), carries)
             }),
         }
@@ -173,6 +174,7 @@ impl Operands {
 /// Groups about the way that a value took to its place.
 struct Paths {
     pcin: usize,
+    carry: usize,
     path: usize,
     a_and_b: usize,
 }
@@ -184,6 +186,15 @@ const PCINS: [&str; 6] = [
     "of a slice with PREG 0",
     "of a slice with PREG 1",
     "of a slice with PREG 0 that takes PCIN",
+];
+
+const CARRIES: [&str; 6] = [
+    "0 at the bottom",
+    "0 of a slice with PREG 0",
+    "1 of a slice with PREG 0",
+    "0 of a slice with PREG 1",
+    "1 of a slice with PREG 1",
+    "1 of a slice with PREG 0 that takes one",
 ];
 
 /// The paths with a register: what is selected from them, and the attribute.
@@ -199,6 +210,7 @@ impl Paths {
         let sources = |side| ["port", "cascade", "register"].map(|from| format!("{side} {from}"));
         Paths {
             pcin: table.group("why Z or CIN by PCIN", PCINS),
+            carry: table.group("why CIN by the carry below", CARRIES),
             path: table.group("why operand", PATHS.into_iter().flat_map(ways)),
             a_and_b: table.group("why A:B with", ["A", "B"].into_iter().flat_map(sources)),
         }
@@ -220,6 +232,21 @@ impl Paths {
             table.met_if(self.a_and_b, side * 3 + source, places[1] == place::AB);
         }
         self.pcin(table, slices, slice, [places[3], places[4]]);
+        if places[4] == place::CARRY_BELOW {
+            self.carry(table, slices, slice, why[an::CIN]);
+        }
+    }
+
+    /// Counts the carry from below that CIN is.
+    fn carry(&self, table: &mut Table, slices: &Slices, slice: usize, carry: u64) {
+        let Some(below) = slice.checked_sub(1) else {
+            table.met(self.carry, 0);
+            return;
+        };
+        let preg = slices.attributes[below][at::PREG];
+        table.met(self.carry, (1 + 2 * preg + carry) as usize);
+        let takes_one = slices.controls(below).carryinsel == 2 && below > 0;
+        table.met_if(self.carry, 5, carry == 1 && preg == 0 && takes_one);
     }
 
     /// Counts the PCIN that Z or CIN is taken from.

@@ -123,7 +123,7 @@ impl SeenRefused {
         let above = call.plain[1] >= call.plain[0];
         table.met_if(self.length_before_13, which, above);
         if which < 3 {
-            let right = [22, 18, 11][which] * call.plain[0];
+            let right = call.right_lengths(WHY)[which];
             table.met(self.length, which * 2 + usize::from(words as i128 > right));
             return;
         }

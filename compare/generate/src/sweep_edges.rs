@@ -90,7 +90,7 @@ fn cascades(book: &mut Book, random: &mut Random) -> io::Result<()> {
     Ok(())
 }
 
-/// A:B added to what comes from below, with a sign for a carry at times.
+/// A:B added to what comes from below, with a sign for a carry at times, or the carry from there.
 fn handed_up(random: &mut Random, attributes: Vec<Attributes>, clocks: u64) -> Column {
     let clock = |random: &mut Random| {
         (0..attributes.len())
@@ -102,7 +102,7 @@ fn handed_up(random: &mut Random, attributes: Vec<Attributes>, clocks: u64) -> C
                 let z = if random.percent(90) { 1 } else { 5 };
                 po[po::OPMODE] = z << 4 | 3;
                 po[po::ALUMODE] = if random.percent(80) { 0 } else { random.below(4) };
-                po[po::CARRYINSEL] = random.pick(&[0, 0, 1, 3]);
+                po[po::CARRYINSEL] = random.pick(&[0, 0, 1, 2, 2, 3]);
                 po[po::CE] = CE_ALL;
                 po
             })

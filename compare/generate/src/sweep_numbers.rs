@@ -126,11 +126,11 @@ fn shifts_in(book: &mut Book, simd: u64) -> io::Result<()> {
 }
 
 /// Carries from the signs of PCIN and P, in the four arithmetic modes. They are
-/// bit 47 in each setting of lanes.
+/// bit 47 in each setting of lanes, and no carry of the slice below.
 fn signs(book: &mut Book) -> io::Result<()> {
     let words: Vec<u64> = edges(48).into_iter().chain([1 << 11, 1 << 23, 1 << 35]).collect();
     for alumode in 0..4 {
-        for carryinsel in [0, 1, 3, 5, 7] {
+        for carryinsel in [0, 1, 2, 3, 5, 7] {
             let mut clocks = Vec::new();
             for c in &words {
                 for carry in [0, 1] {

@@ -140,7 +140,7 @@ fn unit_cases(at: &Attributes) -> Vec<Controls> {
     let mut cases = Vec::new();
     for alumode in (0..4).chain(LOGIC_MODES) {
         for opmode in 0..512 {
-            for carryinsel in [0, 1, 3, 5, 7] {
+            for carryinsel in [0, 1, 2, 3, 5, 7] {
                 cases.push(Controls { opmode, alumode, carryinsel, inmode: 0 });
             }
         }
@@ -168,8 +168,8 @@ fn units(
         let mut growing = Growing::new(attributes);
         for controls in part {
             let mut ports: Vec<Ports> = (0..=slices.len()).map(|_| driven(random)).collect();
-            // The lowest shows A:B, so that PCIN is not always 0.
-            ports[0][po::OPMODE] = 3;
+            // The lowest adds, so that neither PCIN nor the carry from below is always 0.
+            ports[0][po::OPMODE] = ADDS_AB_AND_C;
             for po in &mut ports[1..] {
                 po[po::OPMODE] = controls.opmode;
                 po[po::ALUMODE] = controls.alumode;

@@ -28,7 +28,7 @@ pub struct Tally {
     clocks: u64,
     slice_clocks: u64,
     unexpected: u64,
-    wrong_marks: u64,
+    wrong_outputs: u64,
 }
 
 /// Refusals that a slice is to blame for.
@@ -45,8 +45,11 @@ pub fn tally(directory: &Path, answers: &Path) -> io::Result<bool> {
     println!("clocks: {}", tally.clocks);
     println!("slice-clocks: {}", tally.slice_clocks);
     println!("endings other than the oracle's: {}", tally.unexpected);
-    println!("listings with another PREADDWRAP than the oracle's: {}", tally.wrong_marks);
-    Ok(unmet == 0 && tally.unexpected == 0 && tally.wrong_marks == 0)
+    println!(
+        "listings with another PREADDWRAP, carry or wide sum than the oracle's: {}",
+        tally.wrong_outputs
+    );
+    Ok(unmet == 0 && tally.unexpected == 0 && tally.wrong_outputs == 0)
 }
 
 /// The name, the kind, the aim and the ending that a line of expectations gives.
@@ -87,7 +90,7 @@ impl Tally {
             clocks: 0,
             slice_clocks: 0,
             unexpected: 0,
-            wrong_marks: 0,
+            wrong_outputs: 0,
         }
     }
 
@@ -113,7 +116,7 @@ impl Tally {
 
     /// Rises with each item that is met first, and with each listing that the oracle disagrees with.
     pub fn news(&self) -> u64 {
-        self.table.items_met() as u64 + self.unexpected + self.wrong_marks
+        self.table.items_met() as u64 + self.unexpected + self.wrong_outputs
     }
 
     fn listing(
@@ -214,7 +217,7 @@ impl Tally {
         let shown: Vec<Outputs> = shown.into_iter().map(|[_, _, outputs @ ..]| outputs).collect();
         if let Err(why) = self.seen.shown(&mut self.table, &attributes, &ports, &shown) {
             println!("listing {name}: {why}");
-            self.wrong_marks += 1;
+            self.wrong_outputs += 1;
         }
     }
 }

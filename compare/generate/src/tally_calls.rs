@@ -4,13 +4,16 @@ use std::fs::File;
 use std::io::{self, BufRead, BufReader};
 use std::path::Path;
 
+use crate::carry_oracle::{self, Carry};
 use crate::oracle::{attributes_refused, clock_refused, too_wide, Controls};
 use crate::packed_oracle::lowest_overfull;
 use crate::read_calls::{records, Read, Slices, KINDS, PACKED, PLAIN, WHY};
+use crate::seen_carry::{self, loads, SeenCarry};
 use crate::seen_flags::SeenHeld;
 use crate::seen_lanes::{cause, SeenLanes, CAUSES};
 use crate::seen_packed::SeenRun;
 use crate::seen_why::SeenWhy;
+use crate::seen_wide::{SeenWide, UnderWay};
 use crate::seen_wrap::SeenWrap;
 use crate::table::Table;
 use crate::words::*;
@@ -50,9 +53,38 @@ struct Groups {
     lanes: SeenLanes,
     held: SeenHeld,
     wrap: SeenWrap,
-    without_mark: usize,
+    carry: SeenCarry,
+    wide: SeenWide,
+    former_lengths: usize,
+    wide_word: usize,
+    cleared: usize,
     causes: usize,
     why: SeenWhy,
+    chain: Chain,
+}
+
+/// Lengths that were right before PREADDWRAP and the carry: the call, the stretch, words a slice.
+const FORMER_LENGTHS: [(usize, usize, i128); 5] =
+    [(1, 3, 5), (1, 3, 6), (1, 1, 18), (2, 0, 18), (WHY, 1, 18)];
+/// Words of the carry's register that are over its width.
+const WIDE_WORDS: [&str; 3] = ["2", "3", "more"];
+
+/// The clock before, if the next one goes on from it, and the wide sums under way then.
+#[derive(Default)]
+struct Chain {
+    attributes: Vec<Attributes>,
+    after: Vec<Registers>,
+    under_way: UnderWay,
+}
+
+impl Chain {
+    /// Takes the next clock: its own words, and the registers after it.
+    fn step(&mut self, attributes: &[Attributes], before: &[Registers], after: &[Registers]) {
+        if self.attributes != attributes || self.after != before {
+            self.under_way = UnderWay::default();
+        }
+        (self.attributes, self.after) = (attributes.to_vec(), after.to_vec());
+    }
 }
 
 impl Groups {
@@ -77,9 +109,19 @@ impl Groups {
             lanes: SeenLanes::new(table),
             held: SeenHeld::new(table),
             wrap: SeenWrap::new(table),
-            without_mark: table.group("clock wrong length alone, outputs of", ["5 a slice"]),
+            carry: SeenCarry::new(table, &[0, 1]),
+            wide: SeenWide::new(table),
+            former_lengths: table.group(
+                "wrong length alone, words a slice",
+                FORMER_LENGTHS.map(|(kind, which, words)| {
+                    format!("{} {words} {}", KINDS[kind].0, STRETCHES[kind][which])
+                }),
+            ),
+            wide_word: table.group("clock refusal 4 by the carry alone, of", WIDE_WORDS),
+            cleared: table.group("clear of a carry of", ["1", "more"]),
             causes: table.group("clock refusal 3 by", CAUSES),
             why: SeenWhy::new(table),
+            chain: Chain::default(),
         }
     }
 }
@@ -87,13 +129,13 @@ impl Groups {
 /// Prints the tally of a file of calls and tells whether all is met.
 pub fn tally(calls: &Path, answers: &Path) -> io::Result<bool> {
     let mut table = Table::default();
-    let groups = Groups::new(&mut table);
+    let mut groups = Groups::new(&mut table);
     let mut answers = BufReader::new(File::open(answers)?).lines();
     let (mut count, mut wrong) = (0, 0);
     for call in BufReader::new(File::open(calls)?).lines() {
         let (call, answer) = (call?, answers.next().transpose()?.unwrap_or_default());
         count += 1;
-        if let Err(why) = one(&mut table, &groups, &call, &answer) {
+        if let Err(why) = one(&mut table, &mut groups, &call, &answer) {
             wrong += 1;
             println!("call {count}: {why}");
         }
@@ -104,9 +146,9 @@ pub fn tally(calls: &Path, answers: &Path) -> io::Result<bool> {
     Ok(unmet == 0 && wrong == 0 && answers.next().is_none())
 }
 
-/// Counts one call, and checks what can be checked without a data path; of a run all of its answer,
-/// and of why all that its answer tells about itself.
-fn one(table: &mut Table, groups: &Groups, call: &str, answer: &str) -> Result<(), String> {
+/// Counts one call, and checks what can be checked without a product and a whole unit; of a run all
+/// of its answer, and of why all that its answer tells about itself.
+fn one(table: &mut Table, groups: &mut Groups, call: &str, answer: &str) -> Result<(), String> {
     let mut fields = call.split(' ');
     let name = fields.next().unwrap_or("");
     let kind = KINDS.iter().position(|(kind, _)| *kind == name).ok_or("unknown call")?;
@@ -153,34 +195,77 @@ fn lent_words_right(kind: usize, number: i128, call: &Read, answer: &Read) -> bo
 
 fn refused(table: &mut Table, groups: &Groups, call: &Read, number: i128, slice: usize) {
     table.met(groups.slices[number as usize - 3], slice);
-    if number == 3 {
-        let at = Slices::of(call).attributes[slice];
-        cause(&at).into_iter().for_each(|item| table.met(groups.causes, item));
+    let Slices { attributes, registers, .. } = Slices::of(call);
+    match number {
+        3 => {
+            let item = cause(&attributes[slice]);
+            item.into_iter().for_each(|item| table.met(groups.causes, item));
+        }
+        4 if !too_wide(&registers[slice][..rg::CARRY], &REGISTER_WIDTHS) => {
+            let item = registers[slice][rg::CARRY].min(4) - 2;
+            table.met(groups.wide_word, item as usize);
+        }
+        _ => {}
     }
 }
 
-/// Counts the lanes that an accepted clock met, the flags it held and showed, and its marks; says
-/// where a mark is not the oracle's.
-fn slices(table: &mut Table, groups: &Groups, call: &Read, answer: &Read) -> Result<(), String> {
-    let Slices { attributes, registers, ports } = Slices::of(call);
+/// Counts the lanes that an accepted clock met, the flags it held and showed, its marks and its
+/// carries; says where a mark, a carry or a wide sum is not the oracle's.
+fn slices(
+    table: &mut Table,
+    groups: &mut Groups,
+    call: &Read,
+    answer: &Read,
+) -> Result<(), String> {
+    let slices = Slices::of(call);
+    let Slices { attributes, registers, ports } = &slices;
     let shown: Vec<Outputs> = records(&answer.stretches[3]);
     for (k, at) in attributes.iter().enumerate() {
-        let controls = Controls::of_registers(&registers[k]).in_effect(at, &ports[k]);
         table.met(groups.simd, at[at::USE_SIMD] as usize);
-        groups.lanes.unit(table, at, controls, &ports[k], Some(&registers[k]));
-        let [_, flags @ .., _] = shown[k];
+        groups.lanes.unit(table, at, slices.controls(k), &ports[k], Some(&registers[k]));
+        let [_, flags @ .., _, _] = shown[k];
         groups.lanes.flags(table, at, &flags);
         groups.held.slice(table, at, &registers[k], [flags[2], flags[3]]);
     }
     let held: Vec<Held> = registers.iter().map(Held::of_registers).collect();
-    let pre_adders = PreAdder::all(&attributes, &held, &ports);
+    let pre_adders = PreAdder::all(attributes, &held, ports);
     let marks: Vec<u64> = shown.iter().map(|outputs| outputs[PREADDWRAP]).collect();
-    groups.wrap.clock(table, &attributes, &pre_adders, &ports, &marks)
+    groups.wrap.clock(table, attributes, &pre_adders, ports, &marks)?;
+    carries(table, groups, &slices, &shown, &records(&answer.stretches[1]))
+}
+
+/// Counts the carries of an accepted clock, and the wide sums that it goes on with.
+fn carries(
+    table: &mut Table,
+    groups: &mut Groups,
+    slices: &Slices,
+    shown: &[Outputs],
+    after: &[Registers],
+) -> Result<(), String> {
+    let Slices { attributes, registers, ports } = slices;
+    let held: Vec<_> = registers.iter().map(carry_oracle::Held::of_registers).collect();
+    let carries = Carry::all(attributes, &held, ports, shown);
+    for (k, carry) in carries.iter().enumerate() {
+        let (given, right) = (after[k][rg::CARRY], carry.after(&ports[k]));
+        if given != right {
+            return Err(format!("slice {k} then holds the carry {given}, it must be {right}"));
+        }
+    }
+    let result = |k: usize| match attributes[k][at::PREG] {
+        0 => Some(shown[k][0]),
+        _ => loads(&ports[k]).then_some(after[k][rg::P]),
+    };
+    let results = (0..carries.len()).map(result).collect();
+    let clock =
+        seen_carry::Clock { attributes, ports, carries: &carries, shown, results, edge_seen: true };
+    groups.carry.clock(table, &clock)?;
+    groups.chain.step(attributes, registers, after);
+    groups.wide.clock(table, &mut groups.chain.under_way, &clock)
 }
 
 fn accepted(
     table: &mut Table,
-    groups: &Groups,
+    groups: &mut Groups,
     kind: usize,
     call: &Read,
     answer: &Read,
@@ -194,7 +279,21 @@ fn accepted(
             table.met(groups.heights, call.plain[0] as usize - 1);
             slices(table, groups, call, answer)?;
         }
+        2 => cleared(table, groups, call, answer)?,
         _ => {}
+    }
+    Ok(())
+}
+
+/// Checks that all registers are 0, and counts the carries that they held.
+fn cleared(table: &mut Table, groups: &Groups, call: &Read, answer: &Read) -> Result<(), String> {
+    if answer.stretches[0].iter().any(|word| *word != 0) {
+        return Err("clear left a register that is not 0".into());
+    }
+    for registers in records::<REGISTER_WORDS>(&call.stretches[0]) {
+        let carry = registers[rg::CARRY];
+        table.met_if(groups.cleared, 0, carry == 1);
+        table.met_if(groups.cleared, 1, carry > 1);
     }
     Ok(())
 }
@@ -202,9 +301,11 @@ fn accepted(
 fn wrong_lengths(table: &mut Table, groups: &Groups, kind: usize, call: &Read) {
     if let [which] = call.lengths_wrong(kind)[..] {
         table.met(groups.lengths[kind], which);
-        // The outputs as they were before they had the mark.
         let words = call.stretches[which].len() as i128;
-        table.met_if(groups.without_mark, 0, (kind, which, words) == (1, 3, 5 * call.plain[0]));
+        for (item, (of_kind, of_stretch, each)) in FORMER_LENGTHS.into_iter().enumerate() {
+            let former = (of_kind, of_stretch, each * call.plain[0]) == (kind, which, words);
+            table.met_if(groups.former_lengths, item, former);
+        }
     }
 }
 

@@ -3,6 +3,9 @@
 use std::io::{self, Write};
 
 use crate::calls::{any_clock, faulty, stretch, with_faults, Clock};
+use crate::carry_calls::put;
+use crate::carry_cases::Step;
+use crate::carry_oracle::CARRIES;
 use crate::draw::{self, LOGIC_MODES};
 use crate::faults::{all, Fault};
 use crate::oracle::Controls;
@@ -42,6 +45,7 @@ pub fn sweep(out: &mut impl Write, random: &mut Random) -> io::Result<()> {
     each_carry(out, random)?;
     each_bottom(out, random)?;
     each_cascade(out, random)?;
+    each_carry_straight_up(out, random)?;
     each_count(out, random)?;
     each_length(out, random)?;
     each_slice_above(out, random)?;
@@ -84,8 +88,8 @@ struct Asked {
     preg: u64,
     simd: u64,
     controls: Controls,
-    /// What the slice below shows; there is none without it.
-    pcin: Option<u64>,
+    /// The P and the carry that the slice below shows; there is none without them.
+    below: Option<(u64, u64)>,
     p: u64,
     carryin: u64,
 }
@@ -93,7 +97,7 @@ struct Asked {
 impl Asked {
     /// A legal column around the slice, and now and then a slice above it.
     fn call(&self, random: &mut Random) -> Why {
-        let slice = usize::from(self.pcin.is_some());
+        let slice = usize::from(self.below.is_some());
         let mut attributes = vec![[0; 22]; slice];
         attributes.iter_mut().for_each(|at: &mut Attributes| at[at::PREG] = random.below(2));
         attributes.push(self.attributes(random));
@@ -101,8 +105,8 @@ impl Asked {
             attributes.push(draw::attributes(random));
         }
         let mut clock = Clock::of(random, &attributes);
-        if let Some(pcin) = self.pcin {
-            show(&mut clock, pcin);
+        if let Some((p, carry)) = self.below {
+            show(random, &mut clock, p, carry);
         }
         self.set(&mut clock, slice);
         Why::of(random, clock, slice as u64)
@@ -121,34 +125,19 @@ impl Asked {
 
     /// Puts the controls and the carry where they are in effect.
     fn set(&self, clock: &mut Clock, slice: usize) {
-        let at = &clock.attributes[slice * 22..][..22];
-        let registers = &mut clock.registers[slice * 18..][..18];
-        let ports = &mut clock.ports[slice * 11..][..11];
         let Controls { opmode, alumode, carryinsel, .. } = self.controls;
-        for (attribute, register, port, value) in [
-            (at::OPMODEREG, rg::OPMODE, po::OPMODE, opmode),
-            (at::ALUMODEREG, rg::ALUMODE, po::ALUMODE, alumode),
-            (at::CARRYINSELREG, rg::CARRYINSEL, po::CARRYINSEL, carryinsel),
-            (at::CARRYINREG, rg::CARRYIN, po::CARRYIN, self.carryin),
-        ] {
-            match at[attribute] {
-                1 => registers[register] = value,
-                _ => ports[port] = value,
-            }
-        }
-        registers[rg::P] = self.p;
+        clock.put(slice, at::OPMODEREG, [po::OPMODE, rg::OPMODE], opmode);
+        clock.put(slice, at::ALUMODEREG, [po::ALUMODE, rg::ALUMODE], alumode);
+        clock.put(slice, at::CARRYINSELREG, [po::CARRYINSEL, rg::CARRYINSEL], carryinsel);
+        clock.put(slice, at::CARRYINREG, [po::CARRYIN, rg::CARRYIN], self.carryin);
+        clock.held(slice)[rg::P] = self.p;
     }
 }
 
-/// Has slice 0, which has no register but P, show a number: as its register P, or as A:B.
-fn show(clock: &mut Clock, p: u64) {
-    match clock.attributes[at::PREG] {
-        1 => clock.registers[rg::P] = p,
-        _ => {
-            clock.ports[po::A..=po::B].copy_from_slice(&[p >> 18, p & ones(18)]);
-            clock.ports[po::OPMODE..=po::CARRYIN].copy_from_slice(&[3, 0, 0, 0, 0]);
-        }
-    }
+/// Has slice 0 show a P and a carry, from its registers or as they settle.
+fn show(random: &mut Random, clock: &mut Clock, p: u64, carry: u64) {
+    let at: Attributes = clock.attributes[..22].try_into().unwrap();
+    put(clock, 0, &Step::showing(random, &at, p, carry));
 }
 
 /// A 48-bit word of a sign, and not 0.
@@ -157,7 +146,7 @@ fn signed(random: &mut Random, below_zero: bool) -> u64 {
 }
 
 /// The CARRYINSELs that a slice may have, those that need P last.
-const SELECTS: [u64; 5] = [0, 1, 3, 5, 7];
+const SELECTS: [u64; 6] = [0, 1, 2, 3, 5, 7];
 
 /// Units of a slice: all with the product, and one in three of the others, so that the three
 /// settings of lanes have each of them.
@@ -181,12 +170,12 @@ fn units(preg: u64, simd: u64) -> Vec<Controls> {
 /// signs of PCIN and P take turns.
 fn each_unit(out: &mut impl Write, random: &mut Random) -> io::Result<()> {
     for (preg, simd) in [(0, 0), (0, 1), (0, 2), (1, 0), (1, 1), (1, 2)] {
-        let selects = if preg == 1 { &SELECTS[..] } else { &SELECTS[..3] };
+        let selects = if preg == 1 { &SELECTS[..] } else { &SELECTS[..4] };
         for (turn, unit) in units(preg, simd).into_iter().enumerate() {
             let controls = Controls { carryinsel: selects[turn % selects.len()], ..unit };
-            let pcin = Some(signed(random, turn / 2 % 2 == 1));
+            let below = Some((signed(random, turn / 2 % 2 == 1), random.below(2)));
             let (p, carryin) = (signed(random, turn % 2 == 1), random.below(2));
-            Asked { preg, simd, controls, pcin, p, carryin }.call(random).write(out)?;
+            Asked { preg, simd, controls, below, p, carryin }.call(random).write(out)?;
         }
     }
     Ok(())
@@ -195,16 +184,16 @@ fn each_unit(out: &mut impl Write, random: &mut Random) -> io::Result<()> {
 /// Every CARRYINSEL with both bits it may take, while the bits that it does not take are the other
 /// one: in every arithmetic mode and in a logic mode, in lanes.
 fn each_carry(out: &mut impl Write, random: &mut Random) -> io::Result<()> {
-    for case in 0..2 * 5 * 5 * 3 {
-        let (bit, select, simd) = (case % 2 == 1, SELECTS[case / 2 % 5], case / 50);
+    for case in 0..2 * 6 * 5 * 3 {
+        let (bit, select, simd) = (case % 2 == 1, SELECTS[case / 2 % 6], case / 60);
         let logic = random.pick(&LOGIC_MODES);
-        let alumode = [0, 1, 2, 3, logic][case / 10 % 5];
+        let alumode = [0, 1, 2, 3, logic][case / 12 % 5];
         let takes = |selects: &[u64]| selects.contains(&select) == bit;
         let asked = Asked {
             preg: 1,
             simd: simd as u64,
             controls: Controls { opmode: 3 << 4 | 3, alumode, inmode: 0, carryinsel: select },
-            pcin: Some(signed(random, takes(&[1, 3]))),
+            below: Some((signed(random, takes(&[1, 3])), u64::from(takes(&[2])))),
             p: signed(random, takes(&[5, 7])),
             carryin: u64::from(takes(&[0])),
         };
@@ -213,14 +202,14 @@ fn each_carry(out: &mut impl Write, random: &mut Random) -> io::Result<()> {
     Ok(())
 }
 
-/// PCIN at the bottom, where it is 0: as Z, shifted, and as CIN.
+/// What comes from below at the bottom, where it is 0: as Z, shifted, and as CIN.
 fn each_bottom(out: &mut impl Write, random: &mut Random) -> io::Result<()> {
-    for case in 0..2 * 2 * 2 * 3 {
-        let (z, carryinsel) = ([1, 5][case % 2], [1, 3][case / 2 % 2]);
-        let (preg, simd) = ((case / 4 % 2) as u64, (case / 8) as u64);
+    for case in 0..2 * 3 * 2 * 3 {
+        let (z, carryinsel) = ([1, 5][case % 2], [1, 2, 3][case / 2 % 3]);
+        let (preg, simd) = ((case / 6 % 2) as u64, (case / 12) as u64);
         let controls = Controls { opmode: z << 4 | 3, carryinsel, ..Controls::default() };
         let (p, carryin) = (signed(random, case % 2 == 0), random.below(2));
-        Asked { preg, simd, controls, pcin: None, p, carryin }.call(random).write(out)?;
+        Asked { preg, simd, controls, below: None, p, carryin }.call(random).write(out)?;
     }
     Ok(())
 }
@@ -230,12 +219,29 @@ fn each_cascade(out: &mut impl Write, random: &mut Random) -> io::Result<()> {
     for height in [2, 3, 4, 6, 12, 24] {
         for (z, below_zero) in [(1, false), (1, true), (5, false), (5, true)] {
             let mut clock = Clock::of(random, &vec![[0; 22]; height]);
-            show(&mut clock, signed(random, below_zero));
+            let p = signed(random, below_zero);
+            show(random, &mut clock, p, 0);
             for po in clock.ports.chunks_mut(11).skip(1) {
                 po[po::A] = 0;
                 po[po::OPMODE..=po::CARRYIN].copy_from_slice(&[1 << 4 | 3, 0, 0, 0, 0]);
             }
             clock.ports[(height - 1) * 11 + po::OPMODE] = z << 4;
+            Why::of(random, clock, height as u64 - 1).write(out)?;
+        }
+    }
+    Ok(())
+}
+
+/// A carry that goes up through slices without a register, or none that does; the top is asked.
+fn each_carry_straight_up(out: &mut impl Write, random: &mut Random) -> io::Result<()> {
+    for height in [2, 3, 4, 6, 12, 24] {
+        for carry in [0, 1] {
+            let mut clock = Clock::of(random, &vec![[0; 22]; height]);
+            let p = signed(random, carry == 0);
+            show(random, &mut clock, p, carry);
+            for slice in 1..height {
+                put(&mut clock, slice, &Step::taking(random, Some(CARRIES - 1)));
+            }
             Why::of(random, clock, height as u64 - 1).write(out)?;
         }
     }
@@ -269,8 +275,9 @@ fn each_count(out: &mut impl Write, random: &mut Random) -> io::Result<()> {
 fn each_length(out: &mut impl Write, random: &mut Random) -> io::Result<()> {
     for height in [1, 2, 3, 24] {
         for which in 0..4 {
-            let right = [22 * height, 18 * height, 11 * height, WHY_WORDS][which];
-            // The attributes' second to last is the length without USE_SIMD.
+            let right = [22 * height, REGISTER_WORDS * height, 11 * height, WHY_WORDS][which];
+            // The second to last is the attributes' length without USE_SIMD, and the registers'
+            // without the carry.
             for length in [0, right - 1, right + 1, right.saturating_sub(height), right * 2] {
                 for slice in [height as u64 - 1, height as u64] {
                     let clock = Clock::legal(random, height as u64);
@@ -290,7 +297,7 @@ fn each_length(out: &mut impl Write, random: &mut Random) -> io::Result<()> {
 fn each_slice_above(out: &mut impl Write, random: &mut Random) -> io::Result<()> {
     for height in [1, 2, 3, 24] {
         let mut slices = vec![height, height + 1, 25, 255, 256, 1 << 32, (1 << 32) + height - 1];
-        slices.extend([22, 18, 11].map(|words| u64::MAX / words + 1));
+        slices.extend([22, REGISTER_WORDS as u64, 11].map(|words| u64::MAX / words + 1));
         slices.extend([1 << 48, 1 << 63, u64::MAX - 1, u64::MAX]);
         for slice in slices {
             let clock = Clock::legal(random, height);
@@ -311,7 +318,7 @@ fn each_fault(out: &mut impl Write, random: &mut Random, faults: &[Fault]) -> io
     for (word, width) in REGISTER_WIDTHS.into_iter().enumerate() {
         for slice in 0..3 {
             let mut clock = faulty(random, 3, faults, &[]);
-            clock.registers[slice * 18 + word] = random.pick(&[1 << width, u64::MAX]);
+            clock.held(slice)[word] = random.pick(&[1 << width, u64::MAX]);
             Why::of(random, clock, 1).write(out)?;
         }
     }
@@ -330,8 +337,8 @@ fn broken(random: &mut Random, faults: &[Fault], given: &[(u64, usize)]) -> Cloc
     let mut clock = with_faults(random, 3, &met);
     // A register over its width is no fault that a listing can have.
     for (_, slice) in given.iter().filter(|(number, _)| *number == 4) {
-        let word = random.below(18) as usize;
-        clock.registers[slice * 18 + word] = random.pick(&[1 << REGISTER_WIDTHS[word], u64::MAX]);
+        let word = random.below(REGISTER_WORDS as u64) as usize;
+        clock.held(*slice)[word] = random.pick(&[1 << REGISTER_WIDTHS[word], u64::MAX]);
     }
     clock
 }

@@ -31,6 +31,7 @@ pub mod place {
     pub const NOT_PCIN_SIGN: u64 = 12;
     pub const P_SIGN: u64 = 13;
     pub const NOT_P_SIGN: u64 = 14;
+    pub const CARRY_BELOW: u64 = 15;
 }
 
 /// The places that legal controls select for W, X, Y, Z and CIN.
@@ -45,6 +46,7 @@ fn places(controls: Controls) -> [u64; 5] {
         match controls.carryinsel {
             0 => CARRYIN,
             1 => NOT_PCIN_SIGN,
+            2 => CARRY_BELOW,
             3 => PCIN_SIGN,
             5 => NOT_P_SIGN,
             _ => P_SIGN,
@@ -63,7 +65,7 @@ fn rule(controls: Controls) -> u64 {
     }
 }
 
-fn shifted(word: u64) -> u64 {
+pub fn shifted(word: u64) -> u64 {
     let sign = word >> 47 & 1;
     word >> 17 | (sign * ones(17)) << 31
 }
@@ -77,6 +79,20 @@ fn pcin(slices: &Slices, slice: usize) -> Option<u64> {
         }
         _ => None,
     }
+}
+
+/// The carry that the slice below shows, where nothing has to be settled below that one.
+fn carry_below(slices: &Slices, slice: usize) -> Option<u64> {
+    let Some(below) = slice.checked_sub(1) else { return Some(0) };
+    let (at, controls) = (&slices.attributes[below], slices.controls(below));
+    if at[at::PREG] == 1 {
+        return Some(slices.registers[below][rg::CARRY]);
+    }
+    if [at[at::USE_SIMD], controls.alumode, controls.w(), controls.y()] != [0; 4] {
+        return Some(0);
+    }
+    let [_, x, _, z, cin] = places(controls).map(|place| known(slices, below, place));
+    Some((x? + z? + cin?) >> 48)
 }
 
 /// A:B, where neither comes over a cascade straight.
@@ -115,6 +131,7 @@ fn known(slices: &Slices, slice: usize, place: u64) -> Option<u64> {
         place::PCIN_SIGN => pcin? >> 47,
         place::NOT_PCIN_SIGN => 1 - (pcin? >> 47),
         place::P_SIGN => p >> 47,
+        place::CARRY_BELOW => carry_below(slices, slice)?,
         _ => 1 - (p >> 47),
     })
 }

@@ -3,12 +3,17 @@
 use crate::random::Random;
 
 pub type Attributes = [u64; 22];
-pub type Registers = [u64; 18];
+pub type Registers = [u64; REGISTER_WORDS];
 pub type Ports = [u64; 11];
 pub type Outputs = [u64; OUTPUT_WORDS];
-pub const OUTPUT_WORDS: usize = 6;
-/// The place of the pre-adder's mark, the last of the outputs.
+pub const REGISTER_WORDS: usize = 19;
+pub const OUTPUT_WORDS: usize = 7;
+/// The places of the pre-adder's mark and of the carry, the last of the outputs.
 pub const PREADDWRAP: usize = 5;
+pub const CARRY: usize = 6;
+
+/// The slices of a full column.
+pub const FULL: usize = 24;
 
 /// Places of the attributes.
 pub mod at {
@@ -51,13 +56,15 @@ pub mod po {
     pub const RST: usize = 10;
 }
 
-/// Places of the registers that hold operands, a carry, controls and flags.
+/// Places of the registers that hold operands, controls, flags and the carry.
 pub mod rg {
     pub const A1: usize = 0;
     pub const A2: usize = 1;
+    pub const B1: usize = 2;
     pub const B2: usize = 3;
     pub const C: usize = 4;
     pub const D: usize = 5;
+    pub const AD: usize = 6;
     pub const M: usize = 7;
     pub const P: usize = 8;
     pub const OPMODE: usize = 9;
@@ -69,6 +76,7 @@ pub mod rg {
     pub const PBD: usize = 15;
     pub const PDPAST: usize = 16;
     pub const PBDPAST: usize = 17;
+    pub const CARRY: usize = 18;
 }
 
 pub const ATTRIBUTE_NAMES: [&str; 22] = [
@@ -109,8 +117,8 @@ pub const RST_NAMES: [&str; 10] =
     ["A", "B", "C", "D", "M", "P", "CTRL", "ALUMODE", "INMODE", "ALLCARRYIN"];
 
 pub const PORT_WIDTHS: [u32; 11] = [30, 18, 48, 27, 9, 4, 5, 3, 1, 13, 10];
-pub const REGISTER_WIDTHS: [u32; 18] =
-    [30, 30, 18, 18, 48, 27, 27, 45, 48, 9, 4, 5, 3, 1, 1, 1, 1, 1];
+pub const REGISTER_WIDTHS: [u32; REGISTER_WORDS] =
+    [30, 30, 18, 18, 48, 27, 27, 45, 48, 9, 4, 5, 3, 1, 1, 1, 1, 1, 1];
 
 /// The words of an answer to why.
 pub const WHY_WORDS: usize = 13;
@@ -123,23 +131,35 @@ pub mod inmode {
     pub const SUBTRACTS: u64 = 1 << 3;
 }
 
-/// CE and RST bits that bear on the pre-adder, on P and on the control registers.
+/// CE and RST bits.
 pub const CE_A1: u64 = 1;
 pub const CE_A2: u64 = 1 << 1;
+pub const CE_B1: u64 = 1 << 2;
+pub const CE_B2: u64 = 1 << 3;
+pub const CE_C: u64 = 1 << 4;
 pub const CE_D: u64 = 1 << 5;
 pub const CE_AD: u64 = 1 << 6;
+pub const CE_M: u64 = 1 << 7;
 pub const CE_P: u64 = 1 << 8;
 pub const CE_CTRL: u64 = 1 << 9;
 pub const CE_ALUMODE: u64 = 1 << 10;
 pub const CE_INMODE: u64 = 1 << 11;
+pub const CE_CARRYIN: u64 = 1 << 12;
 pub const CE_ALL: u64 = 8191;
 pub const RST_A: u64 = 1;
+pub const RST_B: u64 = 1 << 1;
+pub const RST_C: u64 = 1 << 2;
 pub const RST_D: u64 = 1 << 3;
+pub const RST_M: u64 = 1 << 4;
 pub const RST_P: u64 = 1 << 5;
 pub const RST_CTRL: u64 = 1 << 6;
 pub const RST_ALUMODE: u64 = 1 << 7;
 pub const RST_INMODE: u64 = 1 << 8;
+pub const RST_ALLCARRYIN: u64 = 1 << 9;
 pub const RST_ALL: u64 = 1023;
+
+/// The OPMODE that adds A:B and C.
+pub const ADDS_AB_AND_C: u64 = 3 << 4 | 3;
 
 /// All ones in so many bits.
 pub const fn ones(width: u32) -> u64 {

@@ -9,9 +9,6 @@ use crate::sweep_wrap::{cases, ways, Case, Way};
 use crate::words::*;
 use crate::wrap_oracle::{beside, pattern, BOTTOM, TOP};
 
-/// The slices of a full column.
-const FULL: usize = 24;
-
 /// Writes every sweep.
 pub fn sweep(out: &mut impl Write, random: &mut Random) -> io::Result<()> {
     each_way(out, random)?;
@@ -20,26 +17,15 @@ pub fn sweep(out: &mut impl Write, random: &mut Random) -> io::Result<()> {
 
 /// Puts D and INMODE of a case where a slice takes them from.
 fn put_d_and_inmode(clock: &mut Clock, slice: usize, way: &Way, case: &Case) {
-    let at = &clock.attributes[slice * 22..][..22];
-    let registers = &mut clock.registers[slice * 18..][..18];
-    let ports = &mut clock.ports[slice * 11..][..11];
-    for (attribute, register, port, value) in [
-        (at::DREG, rg::D, po::D, pattern(case.d)),
-        (at::INMODEREG, rg::INMODE, po::INMODE, way.inmode(case)),
-    ] {
-        match at[attribute] {
-            1 => registers[register] = value,
-            _ => ports[port] = value,
-        }
-    }
+    clock.put(slice, at::DREG, [po::D, rg::D], pattern(case.d));
+    clock.put(slice, at::INMODEREG, [po::INMODE, rg::INMODE], way.inmode(case));
 }
 
 /// Puts a where a slice takes it from: A1, the A path's register, or its own port.
 fn put_a(clock: &mut Clock, slice: usize, takes_a1: bool, a: u64) {
-    match (takes_a1, clock.attributes[slice * 22 + at::AREG]) {
-        (true, _) => clock.registers[slice * 18 + rg::A1] = a,
-        (_, 0) => clock.ports[slice * 11 + po::A] = a,
-        _ => clock.registers[slice * 18 + rg::A2] = a,
+    match takes_a1 {
+        true => clock.held(slice)[rg::A1] = a,
+        false => clock.put(slice, at::AREG, [po::A, rg::A2], a),
     }
 }
 

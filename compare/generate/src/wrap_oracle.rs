@@ -1,6 +1,7 @@
 //! The pre-adder's mark (02, Ask 4), worked out from attributes, ports and the registers before it.
 
 use crate::oracle::loaded;
+use crate::paths::{inputs, Stages, A};
 use crate::words::inmode::*;
 use crate::words::*;
 
@@ -32,42 +33,23 @@ pub fn beside(a: i64) -> Vec<(i64, bool)> {
 /// What the registers before the pre-adder hold.
 #[derive(Clone, Copy, Default)]
 pub struct Held {
-    a1: u64,
-    a2: u64,
+    a: Stages,
     d: u64,
     inmode: u64,
 }
 
 impl Held {
     pub fn of_registers(registers: &Registers) -> Held {
-        let [a1, a2, d, inmode] =
-            [rg::A1, rg::A2, rg::D, rg::INMODE].map(|register| registers[register]);
-        Held { a1, a2, d, inmode }
+        let [d, inmode] = [rg::D, rg::INMODE].map(|register| registers[register]);
+        Held { a: Stages::of_registers(registers, A), d, inmode }
     }
 
     /// What they hold after the edge, when this is the slice's A input.
     pub fn after(self, at: &Attributes, po: &Ports, input: u64) -> Held {
-        let to_a2 = if at[at::AREG] == 2 { self.a1 } else { input };
         Held {
-            a1: loaded(po, self.a1, input, CE_A1, RST_A),
-            a2: loaded(po, self.a2, to_a2, CE_A2, RST_A),
+            a: self.a.after(at, po, A, input),
             d: loaded(po, self.d, po[po::D], CE_D, RST_D),
             inmode: loaded(po, self.inmode, po[po::INMODE], CE_INMODE, RST_INMODE),
-        }
-    }
-
-    fn a_path(self, at: &Attributes, input: u64) -> u64 {
-        match at[at::AREG] {
-            0 => input,
-            _ => self.a2,
-        }
-    }
-
-    /// What the slice above gets as ACIN.
-    fn handed_up(self, at: &Attributes, input: u64) -> u64 {
-        match (at[at::AREG], at[at::ACASCREG]) {
-            (2, 1) => self.a1,
-            _ => self.a_path(at, input),
         }
     }
 }
@@ -90,7 +72,7 @@ impl PreAdder {
     fn of(at: &Attributes, held: Held, po: &Ports, input: u64) -> PreAdder {
         PreAdder {
             input,
-            a: [held.a_path(at, input), held.a1],
+            a: [held.a.path(at, A, input), held.a.first],
             d: [po[po::D], held.d],
             inmodes: [po[po::INMODE], held.inmode],
             d_read: at[at::DREG] as usize,
@@ -100,14 +82,9 @@ impl PreAdder {
 
     /// Those of a column, from the bottom up.
     pub fn all(attributes: &[Attributes], held: &[Held], ports: &[Ports]) -> Vec<PreAdder> {
-        let mut acin = 0;
-        let mut next = |k: usize| {
-            let (at, po) = (&attributes[k], &ports[k]);
-            let input = if at[at::A_INPUT] == 1 { acin } else { po[po::A] };
-            acin = held[k].handed_up(at, input);
-            PreAdder::of(at, held[k], po, input)
-        };
-        (0..attributes.len()).map(&mut next).collect()
+        let inputs = inputs(attributes, ports, A, |k| held[k].a);
+        let of = |k: usize| PreAdder::of(&attributes[k], held[k], &ports[k], inputs[k]);
+        (0..attributes.len()).map(of).collect()
     }
 
     pub fn inmode(&self) -> u64 {

@@ -36,7 +36,7 @@ module _ (count : ℕ) (at rs ps : List ℕ) (accepted : settings count at rs ps
   -- so is the cascade into it
   pub into-within : (k : ℕ) → k < count → CascadeFit (cascadeInto at rs ps k)
   unfolding cascadeInto
-  into-within zero h = more (lit< tt) (more (lit< tt) (more (lit< tt) none))
+  into-within zero h = more (lit< tt) (more (lit< tt) (more (lit< tt) (more (lit< tt) none)))
   into-within (suc k) h =
       cascade-fit _ (registers-within k (le-of-lt h)) (ports-within k (le-of-lt h)) (into-within k (le-of-lt h))
 

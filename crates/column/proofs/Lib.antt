@@ -8,3 +8,4 @@ pub mod Before
 pub mod Truth
 pub mod Unique
 pub mod Values
+pub mod Wide

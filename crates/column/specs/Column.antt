@@ -29,9 +29,9 @@ registersAt rs k = registersOf (stretch registerWords k rs)
 abbrev pub portsAt : List ℕ → (k : ℕ) → Ports
 portsAt ps k = portsOf (stretch portWords k ps)
 
--- Bottom cascade inputs are 0. ACIN is the ACOUT below, BCIN and PCIN likewise
+-- Bottom cascade inputs are 0. ACIN is the ACOUT below, BCIN and PCIN likewise, and so is the carry (02, Ask 7)
 unfoldable pub cascadeInto : (at rs ps : List ℕ) → (k : ℕ) → Cascade
-cascadeInto at rs ps zero = record { a = 0; b = 0; p = 0 }
+cascadeInto at rs ps zero = record { a = 0; b = 0; p = 0; carry = 0 }
 cascadeInto at rs ps (suc k) = sliceCascade (attributesAt at k) (registersAt rs k) (portsAt ps k) (cascadeInto at rs ps k)
 
 -- what slice k shows, and its registers after the edge

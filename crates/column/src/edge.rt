@@ -25,11 +25,8 @@ fn one_edge(
     ensures { λ up.
         ⌜ Edged a (now (registers .entry)) p below up (now (registers .exit)) (now (outputs .exit)) ⌝ }
 {
-    let r = Registers::of(&registers[..]);
-    let step = slice::stepped(a, r, p, below);
-    let next = step.next.words();
+    let step = slice::stepped(a, registers, p, below);
     let shown = step.shown.words();
-    lent::store(registers, &next);
     lent::store(outputs, &shown);
     step.up
 }
@@ -46,7 +43,12 @@ pub fn all_edges(
     ensures { λ _.
         ⌜ AllEdged count (now (attributes .entry)) (now (registers .entry)) (now (ports .entry)) (now (registers .exit)) (now (outputs .exit)) ⌝ }
 {
-    let mut below = Cascade { a: 0, b: 0, p: 0 };
+    let mut below = Cascade {
+        a: 0,
+        b: 0,
+        p: 0,
+        carry: 0,
+    };
     for k in 0..count {
         let r = Registers::WORDS * k;
         let o = Outputs::WORDS * k;

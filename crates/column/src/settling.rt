@@ -74,9 +74,12 @@ pub fn clock_answer(count: usize, attributes: &[u64], registers: &[u64], ports: 
 fn handed_up(a: Attributes, r: Registers, p: Ports, below: Cascade) -> Cascade
     ensures { λ x. ⌜ x ≡ sliceCascade a r p below ⌝ }
 {
+    let k = slice::in_effect(a, r, p);
     let s = slice::routed(a, r, p, below);
     let reason = reason::reason_of(a, r, p, below);
-    slice::cascade_of(a, r, s, reason.result)
+    let result = reason.result;
+    let carry = slice::settled_carry(a, k, reason.values);
+    slice::cascade_of(a, r, s, result, carry)
 }
 
 // What slice k gets from the slice below.
@@ -84,7 +87,12 @@ fn cascade_into(attributes: &[u64], registers: &[u64], ports: &[u64], k: usize) 
     requires { ⌜ Reaches k (now attributes) (now registers) (now ports) ⌝ }
     ensures { λ x. ⌜ x ≡ cascadeInto (now (attributes .entry)) (now (registers .entry)) (now (ports .entry)) k ⌝ }
 {
-    let mut below = Cascade { a: 0, b: 0, p: 0 };
+    let mut below = Cascade {
+        a: 0,
+        b: 0,
+        p: 0,
+        carry: 0,
+    };
     for j in 0..k {
         below = handed_up(
             attributes_at(attributes, j),

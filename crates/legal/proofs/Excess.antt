@@ -160,15 +160,11 @@ leaves-nothing (l ∷ ls) x h m =
 -- where each word of the tables, and the mark, stands among the levels; and where each of the levels stands among the tables
 among-levels : List ℕ
 among-levels =
-    26 ∷ 27 ∷ 28 ∷ 29 ∷ 32 ∷ 33 ∷ 34 ∷ 35 ∷ 36 ∷ 37 ∷ 38 ∷ 39 ∷ 40 ∷ 41 ∷ 42 ∷ 43 ∷ 44 ∷ 45 ∷ 0 ∷ 1 ∷ 2 ∷ 30 ∷ 7 ∷ 8 ∷ 13 ∷ 14 ∷
-    3 ∷ 10 ∷ 11 ∷ 6 ∷ 4 ∷ 18 ∷ 22 ∷ 20 ∷ 24 ∷ 46 ∷ 48 ∷ 49 ∷ 50 ∷ 51 ∷ 9 ∷ 15 ∷ 5 ∷ 12 ∷ 19 ∷ 23 ∷ 21 ∷ 25 ∷ 47 ∷ 16 ∷ 17 ∷ 31 ∷
-    []
+    26 ∷ 27 ∷ 28 ∷ 29 ∷ 32 ∷ 33 ∷ 34 ∷ 35 ∷ 36 ∷ 37 ∷ 38 ∷ 39 ∷ 40 ∷ 41 ∷ 42 ∷ 43 ∷ 44 ∷ 45 ∷ 0 ∷ 1 ∷ 2 ∷ 30 ∷ 7 ∷ 8 ∷ 13 ∷ 14 ∷ 3 ∷ 10 ∷ 11 ∷ 6 ∷ 4 ∷ 18 ∷ 22 ∷ 20 ∷ 24 ∷ 46 ∷ 48 ∷ 49 ∷ 50 ∷ 51 ∷ 52 ∷ 9 ∷ 15 ∷ 5 ∷ 12 ∷ 19 ∷ 23 ∷ 21 ∷ 25 ∷ 47 ∷ 16 ∷ 17 ∷ 31 ∷ []
 
 among-tables : List ℕ
 among-tables =
-    18 ∷ 19 ∷ 20 ∷ 26 ∷ 30 ∷ 42 ∷ 29 ∷ 22 ∷ 23 ∷ 40 ∷ 27 ∷ 28 ∷ 43 ∷ 24 ∷ 25 ∷ 41 ∷ 49 ∷ 50 ∷ 31 ∷ 44 ∷ 33 ∷ 46 ∷ 32 ∷ 45 ∷ 34 ∷
-    47 ∷ 0 ∷ 1 ∷ 2 ∷ 3 ∷ 21 ∷ 51 ∷ 4 ∷ 5 ∷ 6 ∷ 7 ∷ 8 ∷ 9 ∷ 10 ∷ 11 ∷ 12 ∷ 13 ∷ 14 ∷ 15 ∷ 16 ∷ 17 ∷ 35 ∷ 48 ∷ 36 ∷ 37 ∷ 38 ∷ 39 ∷
-    []
+    18 ∷ 19 ∷ 20 ∷ 26 ∷ 30 ∷ 43 ∷ 29 ∷ 22 ∷ 23 ∷ 41 ∷ 27 ∷ 28 ∷ 44 ∷ 24 ∷ 25 ∷ 42 ∷ 50 ∷ 51 ∷ 31 ∷ 45 ∷ 33 ∷ 47 ∷ 32 ∷ 46 ∷ 34 ∷ 48 ∷ 0 ∷ 1 ∷ 2 ∷ 3 ∷ 21 ∷ 52 ∷ 4 ∷ 5 ∷ 6 ∷ 7 ∷ 8 ∷ 9 ∷ 10 ∷ 11 ∷ 12 ∷ 13 ∷ 14 ∷ 15 ∷ 16 ∷ 17 ∷ 35 ∷ 49 ∷ 36 ∷ 37 ∷ 38 ∷ 39 ∷ 40 ∷ []
 
 module _ (a : Attributes) (r : Registers) (p : Ports) (mark : ℕ) where
   -- the levels after RND, which is as wide as any
@@ -190,7 +186,7 @@ module _ (a : Attributes) (r : Registers) (p : Ports) (mark : ℕ) where
         1,
         a .«a_input» ∷ a .«b_input» ∷ a .creg ∷ a .dreg ∷ a .adreg ∷ a .mreg ∷ a .preg
             ∷ a .opmodereg ∷ a .alumodereg ∷ a .inmodereg ∷ a .carryinreg ∷ a .carryinselreg ∷ a .«use_mult» ∷ a .amultsel
-            ∷ r .carryin ∷ p .carryin ∷ r .pd ∷ r .pbd ∷ r .pdpast ∷ r .pbdpast ∷ [],
+            ∷ r .carryin ∷ p .carryin ∷ r .pd ∷ r .pbd ∷ r .pdpast ∷ r .pbdpast ∷ r .carry ∷ [],
       )
       ∷ []
 

@@ -44,14 +44,15 @@ pub record Legality : Type 0 where
   -- 7 and 12 are logic modes, 8 and 11 are refused, 3 is free; a logic mode with W 3, Y 3 or X 1
   pub alumodes : (badAlumode 7 (selectsOf 0) ≡ false) × (badAlumode 8 (selectsOf 0) ≡ true) × (badAlumode 11 (selectsOf 0) ≡ true) × (badAlumode 12 (selectsOf 8) ≡ false)
       × (badAlumode 3 (selectsOf 384) ≡ false) × (badAlumode 4 (selectsOf 384) ≡ true) × (badAlumode 4 (selectsOf 12) ≡ true) × (badAlumode 4 (selectsOf 5) ≡ true)
-  -- 2 and 4 are refused, 3 is free, 7 asks for PREG 1
-  pub carryinsels : (badCarryinsel plain (controlsOf plain empty (given 0 0 0 2)) ≡ true) × (badCarryinsel plain (controlsOf plain empty (given 0 0 0 4)) ≡ true)
+  -- 4 and 6 are refused, 2 (02, Ask 7) and 3 are free, 7 asks for PREG 1
+  pub carryinsels : (badCarryinsel plain (controlsOf plain empty (given 0 0 0 2)) ≡ false) × (badCarryinsel plain (controlsOf plain empty (given 0 0 0 4)) ≡ true)
+      × (badCarryinsel plain (controlsOf plain empty (given 0 0 0 6)) ≡ true)
       × (badCarryinsel plain (controlsOf plain empty (given 0 0 0 3)) ≡ false) × (badCarryinsel plain (controlsOf plain empty (given 0 0 0 7)) ≡ true)
       × (badCarryinsel registered (controlsOf registered empty (given 0 0 0 7)) ≡ false)
   -- a word at its width's power of two is over, one below it is not; and a setting at fault is enough
   pub quick : (breaksNothing plain empty (given 0 0 0 0) ≡ true) × (breaksNothing plain (registersOf ((2 ^ 30) ∷ [])) (given 0 0 0 0) ≡ false)
       × (breaksNothing plain (registersOf ((2 ^ 30 - 1) ∷ [])) (given 0 0 0 0) ≡ true)
-      × (breaksNothing plain empty (given 64 0 0 0) ≡ false) × (breaksNothing plain empty (given 0 0 0 2) ≡ false)
+      × (breaksNothing plain empty (given 64 0 0 0) ≡ false) × (breaksNothing plain empty (given 0 0 0 2) ≡ true) × (breaksNothing plain empty (given 0 0 0 4) ≡ false)
       × (breaksNothing multiplying empty (given 5 0 0 0) ≡ true) × (breaksNothing (attributesOf (3 ∷ 0 ∷ 3 ∷ [])) empty (given 0 0 0 0) ≡ false)
 
 pub legality : Legality
@@ -65,6 +66,6 @@ legality =
       inmode-bits = (refl, refl, refl, refl);
       opmode-selects = (refl, refl, refl, refl, refl, refl, refl, refl);
       alumodes = (refl, refl, refl, refl, refl, refl, refl, refl);
-      carryinsels = (refl, refl, refl, refl, refl);
-      quick = (refl, refl, refl, refl, refl, refl, refl);
+      carryinsels = (refl, refl, refl, refl, refl, refl);
+      quick = (refl, refl, refl, refl, refl, refl, refl, refl);
     }

@@ -46,10 +46,10 @@ badAlumode mode s =
     leb 8 mode && leb mode 11
     || not (ltb mode 4) && (not (eqb (s .w) 0) || not (eqb (s .y) 0 || eqb (s .y) 2) || eqb (s .x) 1)
 
--- 9: CARRYINSEL 2, 4, 6; or 5, 7 with PREG 0
+-- 9: CARRYINSEL 4, 6 (2 no longer: 02, Ask 7); or 5, 7 with PREG 0
 unfoldable pub badCarryinsel : Attributes → Controls → Bool
 badCarryinsel a k =
-    eqb (k .carryinsel) 2 || eqb (k .carryinsel) 4 || eqb (k .carryinsel) 6
+    eqb (k .carryinsel) 4 || eqb (k .carryinsel) 6
     || (eqb (k .carryinsel) 5 || eqb (k .carryinsel) 7) && eqb (a .preg) 0
 
 -- Numbers 6 to 9: a slice's settings break a rule

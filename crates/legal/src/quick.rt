@@ -23,7 +23,7 @@ const X_AND_Y: u64 = 0xdd2d_dd0d_9929_9909;
 const W_AND_Z: u64 = 0x6f6f_6f6f_2b2b_002b;
 
 // Bit 8 · PREG + CARRYINSEL.
-const CARRYINSELS: u64 = 0xab0b;
+const CARRYINSELS: u64 = 0xaf0f;
 
 // The bits of OPMODE that a logic mode has clear: both of W, bits 8 and 7, and the low one of Y, bit 2.
 const CLEAR_IN_LOGIC: u64 = 0x184;
@@ -64,7 +64,7 @@ fn excess(a: Attributes, r: Registers, p: Ports, mark: u64) -> u64
         | a.carryinreg
         | a.carryinselreg;
     let flags = controls | a.use_mult | a.amultsel | r.carryin | p.carryin;
-    (flags | r.pd | r.pbd | r.pdpast | r.pbdpast) >> 1
+    (flags | r.pd | r.pbd | r.pdpast | r.pbdpast | r.carry) >> 1
 }
 
 // Bit `place` of a table of 64.

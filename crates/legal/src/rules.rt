@@ -68,8 +68,7 @@ fn bad_alumode(alumode: u64, s: Selects) -> bool
 fn bad_carryinsel(a: Attributes, k: Controls) -> bool
     ensures { λ r. ⌜ r ≡ badCarryinsel a k ⌝ }
 {
-    (k.carryinsel == 2)
-        | (k.carryinsel == 4)
+    (k.carryinsel == 4)
         | (k.carryinsel == 6)
         | ((k.carryinsel == 5) | (k.carryinsel == 7)) & (a.preg == 0)
 }

@@ -1,5 +1,5 @@
 -- What is printed of an event: a slice's outputs as they are lent, and how long it can be. Assumes nothing.
-use mathlib.Core.Path.{_≡_, refl, sym, ap, _∙_}
+use mathlib.Core.Path.{_≡_, ap}
 use mathlib.Core.List.{List, [], _∷_}
 use Prim.Native.Nat.{ℕ, zero, suc, _+_, _*_, _-_, _<_, _≤_}
 use native.Mathlib.Nat.{mul-suc, mul-le-mul-left}
@@ -7,6 +7,8 @@ use native.Mathlib.Numerals.{add-one}
 use native.Mathlib.Omega.{arith}
 use lib.ListN.{length, take, drop, getD, length-append, length-take, length-drop}
 use Rattle.records.specs.Records.{outputWords}
+use Rattle.records.proofs.Fits.{each}
+use Rattle.records.proofs.Putting.{spread}
 use Rattle.column.specs.Column.{stretch, stacked}
 use Rattle.column.proofs.Stacks.{part-count}
 use Rattle.text.specs.Bytes.{fieldRoom}
@@ -18,23 +20,6 @@ use Rattle.listing.specs.declared.player.Event.the-variants.{Nothing, Cl
 use Rattle.listing.specs.Letters.{letterO, letterR, letterE}
 use Rattle.listing.specs.Limits.{mostSlices, outputRoom, clockRoom}
 use Rattle.listing.specs.Steps.{outputLine, bytesOf}
-
--- n words of a list, from word i on
-abbrev pub from : (ws : List ℕ) → (i n : ℕ) → List ℕ
-from ws i zero = []
-from ws i (suc n) = getD ws i 0 ∷ from ws (suc i) n
-
-from-tail : (w : ℕ) (ws : List ℕ) (i n : ℕ) → from (w ∷ ws) (suc i) n ≡ from ws i n
-from-tail w ws i zero = refl
-from-tail w ws i (suc n) = ap (λ (l : List ℕ). getD ws i 0 ∷ l) (from-tail w ws (suc i) n)
-
--- a list is its words one by one
-word-by-word : (ws : List ℕ) → from ws 0 (length ws) ≡ ws
-word-by-word [] = refl
-word-by-word (w ∷ ws) = ap (λ (l : List ℕ). w ∷ l) (from-tail w ws 0 (length ws) ∙ word-by-word ws)
-
-all-words : (n : ℕ) (ws : List ℕ) → length ws ≡ n → from ws 0 n ≡ ws
-all-words n ws h = ap (from ws 0) (sym h) ∙ word-by-word ws
 
 -- no `O` line is longer than its numbers allow
 output-line-length : (clock : ℕ) (os : List ℕ) (k : ℕ) → length (outputLine clock os k) ≤ outputRoom
@@ -97,7 +82,7 @@ pub line-put : (letter at : ℕ) (ns out : List ℕ) (r : ℕ) (out′ : List �
 line-put letter at ns out r out′ h p = rw (line-fits letter ns at out h) at p
 
 pub slice-put : (clock k at : ℕ) (shown out : List ℕ) (r : ℕ) (out′ : List ℕ) → length shown ≡ outputWords → at + outputRoom ≤ length out
-    → Put at (lineWithin letterO (clock ∷ k ∷ from shown 0 outputWords) at out) out r out′
+    → Put at (lineWithin letterO (clock ∷ k ∷ each outputWords (λ i. getD shown i 0)) at out) out r out′
     → Put at (printed letterO (clock ∷ k ∷ shown)) out r out′
 slice-put clock k at shown out r out′ l h p =
-    rw (all-words outputWords shown l) at (line-put letterO at (clock ∷ k ∷ from shown 0 outputWords) out r out′ (omega arith) p)
+    rw (← spread outputWords shown l) at (line-put letterO at (clock ∷ k ∷ each outputWords (λ i. getD shown i 0)) out r out′ (omega arith) p)

@@ -11,8 +11,8 @@ use Rattle.column.specs.declared.Answer.the-variants.{Accepted}
 use Rattle.column.specs.Column.{columnNext, columnShown, shownAt, nextAt, cascadeInto}
 use Rattle.column.specs.Refusals.{attributesAnswer, clockAnswer, rules, settings, lengthsFit as lengthsOfClock, fails, broken}
 use Rattle.legal.specs.Legal.{offList, badInmode, badOpmode, badAlumode, badCarryinsel, breaks}
-use Rattle.slice.specs.Slice.{controlsOf, selectsOf, sliceNext, nextOf, edge, sliceOutputs, sliceCascade, outputsOfSettled, cascadeOf, sliceSettled, settledOf, resultOf, sliceOperands, operandsOf, productOf, leftOf, rightOf, preAddedOf, aSide, dSide, pathsOf}
-use Rattle.unit.specs.Unit.{unitResult, splitResult, arithmetic, lanes, logicRows, wrappedSum, preAdder, product, load}
+use Rattle.slice.specs.Slice.{controlsOf, selectsOf, sliceNext, nextOf, edge, sliceOutputs, sliceCascade, outputsOfSettled, cascadeOf, sliceSettled, settledOf, settledCarry, resultOf, sliceOperands, operandsOf, productOf, leftOf, rightOf, preAddedOf, aSide, dSide, pathsOf}
+use Rattle.unit.specs.Unit.{unitResult, splitResult, carryOut, arithmetic, lanes, logicRows, wrappedSum, preAdder, product, load}
 use Rattle.unit.specs.Detector.{detected, unmasked}
 use Rattle.listing.specs.declared.player.Phase.the-variants.{Head, Clocks, Stopped}
 use Rattle.listing.specs.declared.player.Player.{Player}
@@ -109,23 +109,23 @@ unclocked =
 
 pub record OneClock : Type 0 where
   -- 01's worked example
-  pub worked : listing (n-line 1 ++ (a-line 0 ++ p-line 5 7 15)) ≡ printed letterO (0 ∷ 0 ∷ 12 ∷ 0 ∷ 0 ∷ 0 ∷ 0 ∷ 0 ∷ []) ++ printed letterE (1 ∷ [])
+  pub worked : listing (n-line 1 ++ (a-line 0 ++ p-line 5 7 15)) ≡ printed letterO (0 ∷ 0 ∷ 12 ∷ 0 ∷ 0 ∷ 0 ∷ 0 ∷ 0 ∷ 0 ∷ []) ++ printed letterE (1 ∷ [])
   -- TWO24, B 1 and C all ones: the low lane wraps, and the high one is as it was
   pub split : listing (n-line 1 ++ (simd-line 1 ++ p-line 1 281474976710655 15))
-      ≡ printed letterO (0 ∷ 0 ∷ 281474959933440 ∷ 0 ∷ 0 ∷ 0 ∷ 0 ∷ 0 ∷ []) ++ printed letterE (1 ∷ [])
+      ≡ printed letterO (0 ∷ 0 ∷ 281474959933440 ∷ 0 ∷ 0 ∷ 0 ∷ 0 ∷ 0 ∷ 0 ∷ []) ++ printed letterE (1 ∷ [])
   -- a forbidden OPMODE in the second clock: one clock was run, and the refused one prints no `O`
   pub refused-later : listing (n-line 1 ++ (a-line 0 ++ (p-line 5 7 15 ++ p-line 5 7 1)))
-      ≡ printed letterO (0 ∷ 0 ∷ 12 ∷ 0 ∷ 0 ∷ 0 ∷ 0 ∷ 0 ∷ []) ++ refused 7 1 0
+      ≡ printed letterO (0 ∷ 0 ∷ 12 ∷ 0 ∷ 0 ∷ 0 ∷ 0 ∷ 0 ∷ 0 ∷ []) ++ refused 7 1 0
   -- bottom first: B over its width in the second line is 5 of slice 1
   pub port-over : listing (n-line 2 ++ (a-line 0 ++ (a-line 0 ++ (p-line 0 0 0 ++ p-line 262144 0 0)))) ≡ refused 5 0 1
 
 pub one-clock : OneClock
-unfolding listing byteTurn headStep groupStep answered settingsLine lineOf endSays endOf printed decimalOf clockedRegisters clockedOutputs outputLine attributesAnswer clockAnswer rules settings lengthsOfClock fails broken breaks exceeds columnNext columnShown shownAt nextAt cascadeInto offList badInmode badOpmode badAlumode badCarryinsel controlsOf selectsOf sliceNext nextOf edge load sliceOutputs sliceCascade outputsOfSettled cascadeOf sliceSettled settledOf resultOf sliceOperands operandsOf productOf leftOf rightOf preAddedOf aSide dSide pathsOf splitResult unitResult lanes arithmetic logicRows wrappedSum preAdder product detected unmasked
+unfolding listing byteTurn headStep groupStep answered settingsLine lineOf endSays endOf printed decimalOf clockedRegisters clockedOutputs outputLine attributesAnswer clockAnswer rules settings lengthsOfClock fails broken breaks exceeds columnNext columnShown shownAt nextAt cascadeInto offList badInmode badOpmode badAlumode badCarryinsel controlsOf selectsOf sliceNext nextOf edge load sliceOutputs sliceCascade outputsOfSettled cascadeOf sliceSettled settledOf settledCarry carryOut resultOf sliceOperands operandsOf productOf leftOf rightOf preAddedOf aSide dSide pathsOf splitResult unitResult lanes arithmetic logicRows wrappedSum preAdder product detected unmasked
 one-clock = record { worked = refl; split = refl; refused-later = refl; port-over = refl }
 
 -- within a clock from slice 0 up
-slices-up : bytesOf (Clocked 3) 2 (10 ∷ 11 ∷ 12 ∷ 13 ∷ 14 ∷ 15 ∷ 20 ∷ 21 ∷ 22 ∷ 23 ∷ 24 ∷ 25 ∷ [])
-    ≡ printed letterO (3 ∷ 0 ∷ 10 ∷ 11 ∷ 12 ∷ 13 ∷ 14 ∷ 15 ∷ []) ++ printed letterO (3 ∷ 1 ∷ 20 ∷ 21 ∷ 22 ∷ 23 ∷ 24 ∷ 25 ∷ [])
+slices-up : bytesOf (Clocked 3) 2 (10 ∷ 11 ∷ 12 ∷ 13 ∷ 14 ∷ 15 ∷ 16 ∷ 20 ∷ 21 ∷ 22 ∷ 23 ∷ 24 ∷ 25 ∷ 26 ∷ [])
+    ≡ printed letterO (3 ∷ 0 ∷ 10 ∷ 11 ∷ 12 ∷ 13 ∷ 14 ∷ 15 ∷ 16 ∷ []) ++ printed letterO (3 ∷ 1 ∷ 20 ∷ 21 ∷ 22 ∷ 23 ∷ 24 ∷ 25 ∷ 26 ∷ [])
 unfolding outputLine printed decimalOf
 slices-up = refl
 
@@ -179,7 +179,7 @@ pub record Numbers : Type 0 where
   pub count-over : numbersFit 1 (player 25 23 0 0 512) ≡ false
   pub given-over : numbersFit 1 (player 24 24 0 0 512) ≡ false
   pub held-over : numbersFit 1 (player 24 23 0 0 513) ≡ false
-  pub lengths : lengthsFit 528 432 264 144 512 ≡ true
+  pub lengths : lengthsFit 528 456 264 168 512 ≡ true
 
 pub numbers : Numbers
 numbers =

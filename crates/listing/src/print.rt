@@ -27,6 +27,7 @@ fn put_slice(clock: u64, k: u64, shown: &[u64], out: &mut [u8], at: usize) -> us
         shown[3],
         shown[4],
         shown[5],
+        shown[6],
     ];
     text::put_line(letters::O, &numbers, out, at)
 }

@@ -19,10 +19,10 @@ use Rattle.column.proofs.Stacks.{stacked-ext, stacked-zeros, stretch-stacked}
 use Rattle.column.proofs.Edges.{shown-length}
 use Rattle.packed.specs.Packed.{Batch, setting, fed, slicePorts, runAttributes, runPorts, runRegisters, top}
 
--- what slice k gets from below: A2, B2 and P of the slice below, 0 at the bottom
+-- what slice k gets from below: A2, B2, P and the carry of the slice below, 0 at the bottom
 abbrev pub below : (ℕ → Registers) → (k : ℕ) → Cascade
-below r zero = record { a = 0; b = 0; p = 0 }
-below r (suc k) = record { a = r k .a2; b = r k .b2; p = r k .p }
+below r zero = record { a = 0; b = 0; p = 0; carry = 0 }
+below r (suc k) = record { a = r k .a2; b = r k .b2; p = r k .p; carry = r k .carry }
 
 -- what the pre-adder and the multiplier make of a, d and b, as the unit gets it
 abbrev pub productWord : (a d b : ℤ) → ℕ

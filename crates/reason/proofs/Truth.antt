@@ -22,7 +22,7 @@ use Rattle.slice.specs.declared.inputs.Controls.{Controls}
 use Rattle.slice.specs.declared.inputs.Paths.{Paths}
 use Rattle.slice.specs.declared.operands.Operands.{Operands}
 use Rattle.slice.specs.Slice.{controlsOf, selectsOf, pathsOf, productOf, operandsOf, sliceOperands, resultOf, settledOf, sliceSettled, outputsOfSettled, sliceOutputs, edge, nextOf, sliceNext}
-use Rattle.reason.specs.declared.places.Place.the-variants.{Zero, M, P, AB, Ones, C, Pcin, PcinShifted, PShifted, Rnd, Carryin, PcinBit47, NotPcinBit47, PBit47, NotPBit47}
+use Rattle.reason.specs.declared.places.Place.the-variants.{Zero, M, P, AB, Ones, C, Pcin, PcinShifted, PShifted, Rnd, Carryin, PcinBit47, NotPcinBit47, PBit47, NotPBit47, CarryBelow}
 use Rattle.reason.specs.declared.rules.Rule.{Rule}
 use Rattle.reason.specs.declared.rules.Rule.the-variants.{NoRule, Sum, SumNotZ, NotSum, Difference, Xor, Xnor, And, Or, AndNotZ, OrNotZ, Nand, Nor, NotXOrZ, NotXAndZ}
 use Rattle.reason.specs.declared.Reason.{Reason}
@@ -51,7 +51,7 @@ held-operands a r k s x m =
       y = List·getD-map held (Zero ∷ Zero ∷ Ones ∷ C ∷ []) (select .y) Zero i;
       z = List·getD-map held (Zero ∷ Pcin ∷ P ∷ C ∷ Zero ∷ PcinShifted ∷ PShifted ∷ []) (select .z) Zero i;
       cin =
-          List·getD-map held (Carryin ∷ NotPcinBit47 ∷ Zero ∷ PcinBit47 ∷ Zero ∷ NotPBit47 ∷ Zero ∷ PBit47 ∷ [])
+          List·getD-map held (Carryin ∷ NotPcinBit47 ∷ CarryBelow ∷ PcinBit47 ∷ Zero ∷ NotPBit47 ∷ Zero ∷ PBit47 ∷ [])
           (k .carryinsel)
           Zero
           i;

@@ -3,14 +3,14 @@ use mathlib.Core.Path.{_≡_, refl}
 use mathlib.Core.List.{List, [], _∷_, _++_, map}
 use Prim.Native.Nat.{ℕ, _-_, _^_}
 use lib.ListN.{replicate}
-use Rattle.unit.specs.Unit.{ones, arithmetic, lanes, logicRows, unitResult, splitResult, wrappedSum, preAdder, product}
+use Rattle.unit.specs.Unit.{ones, arithmetic, lanes, logicRows, unitResult, splitResult, carryOut, wrappedSum, preAdder, product}
 use Rattle.unit.specs.Detector.{unmasked, detected}
 use Rattle.records.specs.declared.Attributes.{Attributes}
 use Rattle.records.specs.declared.Registers.{Registers}
 use Rattle.records.specs.declared.Ports.{Ports}
 use Rattle.slice.specs.declared.inputs.Cascade.{Cascade}
 use Rattle.records.specs.Records.{attributesOf, registersOf, portsOf}
-use Rattle.slice.specs.Slice.{controlsOf, selectsOf, pathsOf, aSide, dSide, preAddedOf, leftOf, rightOf, productOf, operandsOf, sliceOperands, resultOf, settledOf, sliceSettled}
+use Rattle.slice.specs.Slice.{controlsOf, selectsOf, pathsOf, aSide, dSide, preAddedOf, leftOf, rightOf, productOf, operandsOf, sliceOperands, resultOf, settledCarry, settledOf, sliceSettled}
 use Rattle.reason.specs.Reason.{placeNumber, wPlace, xPlace, yPlace, zPlace, cinPlace, placesOf, ruleNumber, ruleOf, reasonOf, noReason, reasonWords}
 
 abbrev told : Attributes → Registers → Ports → Cascade → List ℕ
@@ -37,11 +37,11 @@ holding m p = registersOf (replicate 7 0 ++ (m ∷ p ∷ []))
 abbrev given : (b c opmode alumode inmode carryinsel carryin : ℕ) → Ports
 given b c opmode alumode inmode carryinsel carryin = portsOf (0 ∷ b ∷ c ∷ 0 ∷ opmode ∷ alumode ∷ inmode ∷ carryinsel ∷ carryin ∷ [])
 
--- PCIN
+-- PCIN, and a carry
 abbrev below : ℕ → Cascade
-below p = record { a = 0; b = 0; p = p }
+below p = record { a = 0; b = 0; p = p; carry = 1 }
 
--- CIN and its place: P is 5, whose bit 47 is 0, and PCIN 2^47
+-- CIN and its place: P is 5, whose bit 47 is 0, PCIN 2^47, and the slice below shows a carry
 abbrev carry : (carryinsel : ℕ) → List ℕ
 carry carryinsel =
     (reasonOf plain (holding 0 5) (given 0 0 0 0 0 carryinsel 1) (below (2 ^ 47)) .values .cin)
@@ -82,13 +82,13 @@ pub record Reasons : Type 0 where
   -- Z shifted: of P 2^18, and of PCIN 2^19
   pub z-shifted : told plain (holding 0 (2 ^ 18)) (given 0 0 96 0 0 0 0) (below (2 ^ 19))
       ≡ 0 ∷ 0 ∷ 0 ∷ 2 ∷ 0 ∷ 0 ∷ 0 ∷ 0 ∷ 8 ∷ 10 ∷ 1 ∷ 0 ∷ 2 ∷ []
-  pub carries : (carry 0 ≡ 1 ∷ 10 ∷ []) × (carry 1 ≡ 0 ∷ 12 ∷ []) × (carry 3 ≡ 1 ∷ 11 ∷ []) × (carry 5 ≡ 1 ∷ 14 ∷ []) × (carry 7 ≡ 0 ∷ 13 ∷ [])
+  pub carries : (carry 0 ≡ 1 ∷ 10 ∷ []) × (carry 1 ≡ 0 ∷ 12 ∷ []) × (carry 2 ≡ 1 ∷ 15 ∷ []) × (carry 3 ≡ 1 ∷ 11 ∷ []) × (carry 5 ≡ 1 ∷ 14 ∷ []) × (carry 7 ≡ 0 ∷ 13 ∷ [])
   -- every select of every operand, those refused and one past the last among them
   pub w-places : map (λ s. placeNumber (wPlace s)) selects ≡ 0 ∷ 2 ∷ 9 ∷ 5 ∷ replicate 5 0
   pub x-places : map (λ s. placeNumber (xPlace s)) selects ≡ 0 ∷ 1 ∷ 2 ∷ 3 ∷ replicate 5 0
   pub y-places : map (λ s. placeNumber (yPlace s)) selects ≡ 0 ∷ 0 ∷ 4 ∷ 5 ∷ replicate 5 0
   pub z-places : map (λ s. placeNumber (zPlace s)) selects ≡ 0 ∷ 6 ∷ 2 ∷ 5 ∷ 0 ∷ 7 ∷ 8 ∷ 0 ∷ 0 ∷ []
-  pub cin-places : map (λ s. placeNumber (cinPlace s)) selects ≡ 10 ∷ 12 ∷ 0 ∷ 11 ∷ 0 ∷ 14 ∷ 0 ∷ 13 ∷ 0 ∷ []
+  pub cin-places : map (λ s. placeNumber (cinPlace s)) selects ≡ 10 ∷ 12 ∷ 15 ∷ 11 ∷ 0 ∷ 14 ∷ 0 ∷ 13 ∷ 0 ∷ []
   -- every mode, those refused and 16 among them, with Y 0 and with Y all ones
   pub with-y-0 : rules 0 ≡ 1 ∷ 2 ∷ 3 ∷ 4 ∷ 5 ∷ 6 ∷ 6 ∷ 5 ∷ 0 ∷ 0 ∷ 0 ∷ 0 ∷ 7 ∷ 9 ∷ 11 ∷ 13 ∷ 0 ∷ []
   pub with-y-ones : rules (ones 48) ≡ 1 ∷ 2 ∷ 3 ∷ 4 ∷ 6 ∷ 5 ∷ 5 ∷ 6 ∷ 0 ∷ 0 ∷ 0 ∷ 0 ∷ 8 ∷ 10 ∷ 12 ∷ 14 ∷ 0 ∷ []
@@ -96,7 +96,7 @@ pub record Reasons : Type 0 where
   pub zeros : reasonWords noReason ≡ replicate 13 0
 
 pub reasons : Reasons
-unfolding reasonWords reasonOf placesOf ruleOf sliceSettled settledOf resultOf sliceOperands operandsOf selectsOf productOf leftOf rightOf preAddedOf aSide dSide controlsOf pathsOf splitResult unitResult lanes arithmetic logicRows wrappedSum preAdder product detected unmasked
+unfolding reasonWords reasonOf placesOf ruleOf sliceSettled settledOf settledCarry carryOut resultOf sliceOperands operandsOf selectsOf productOf leftOf rightOf preAddedOf aSide dSide controlsOf pathsOf splitResult unitResult lanes arithmetic logicRows wrappedSum preAdder product detected unmasked
 reasons =
     record {
       packed-slice = refl;
@@ -107,7 +107,7 @@ reasons =
       rnd = refl;
       four-lanes = refl;
       z-shifted = refl;
-      carries = (refl, refl, refl, refl, refl);
+      carries = (refl, refl, refl, refl, refl, refl);
       w-places = refl;
       x-places = refl;
       y-places = refl;

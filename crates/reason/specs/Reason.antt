@@ -19,7 +19,7 @@ use Rattle.slice.specs.declared.inputs.Paths.{Paths}
 use Rattle.slice.specs.declared.operands.Operands.{Operands}
 use Rattle.slice.specs.Slice.{controlsOf, selectsOf, pathsOf, productOf, joined, sliceOperands, sliceSettled}
 use Rattle.reason.specs.declared.places.Place.{Place}
-use Rattle.reason.specs.declared.places.Place.the-variants.{Zero, M, P, AB, Ones, C, Pcin, PcinShifted, PShifted, Rnd, Carryin, PcinBit47, NotPcinBit47, PBit47, NotPBit47}
+use Rattle.reason.specs.declared.places.Place.the-variants.{Zero, M, P, AB, Ones, C, Pcin, PcinShifted, PShifted, Rnd, Carryin, PcinBit47, NotPcinBit47, PBit47, NotPBit47, CarryBelow}
 use Rattle.reason.specs.declared.places.Places.{Places}
 use Rattle.reason.specs.declared.rules.Rule.{Rule}
 use Rattle.reason.specs.declared.rules.Rule.the-variants.{NoRule, Sum, SumNotZ, NotSum, Difference, Xor, Xnor, And, Or, AndNotZ, OrNotZ, Nand, Nor, NotXOrZ, NotXAndZ}
@@ -47,10 +47,11 @@ yPlace select = named (Zero ∷ Zero ∷ Ones ∷ C ∷ []) select
 abbrev pub zPlace : (select : ℕ) → Place
 zPlace select = named (Zero ∷ Pcin ∷ P ∷ C ∷ Zero ∷ PcinShifted ∷ PShifted ∷ []) select
 
--- CARRYINSEL: 0 the CARRYIN path; 1 not PCIN bit 47; 3 PCIN bit 47; 5 not P bit 47; 7 P bit 47
+-- CARRYINSEL: 0 the CARRYIN path; 1 not PCIN bit 47; 2 the carry of the slice below (02, Ask 7); 3 PCIN bit 47; 5 not P bit 47;
+-- 7 P bit 47
 abbrev pub cinPlace : (select : ℕ) → Place
 cinPlace select =
-    named (Carryin ∷ NotPcinBit47 ∷ Zero ∷ PcinBit47 ∷ Zero ∷ NotPBit47 ∷ Zero ∷ PBit47 ∷ []) select
+    named (Carryin ∷ NotPcinBit47 ∷ CarryBelow ∷ PcinBit47 ∷ Zero ∷ NotPBit47 ∷ Zero ∷ PBit47 ∷ []) select
 
 -- where each of `operandsOf`'s values comes from, by the control words in effect
 unfoldable pub placesOf : Controls → Places
@@ -80,6 +81,7 @@ heldAt a r s x m PcinBit47 = bit (x .p) 47
 heldAt a r s x m NotPcinBit47 = 1 - bit (x .p) 47
 heldAt a r s x m PBit47 = bit (r .p) 47
 heldAt a r s x m NotPBit47 = 1 - bit (r .p) 47
+heldAt a r s x m CarryBelow = x .carry
 
 -- the same, of all that a slice reads; M is read from the register when MREG is 1, else bypassed
 unfoldable pub valueAt : Attributes → Registers → Ports → Cascade → Place → ℕ
@@ -185,6 +187,7 @@ placeNumber PcinBit47 = 11
 placeNumber NotPcinBit47 = 12
 placeNumber PBit47 = 13
 placeNumber NotPBit47 = 14
+placeNumber CarryBelow = 15
 
 abbrev pub ruleNumber : Rule → ℕ
 ruleNumber NoRule = 0

@@ -11,7 +11,8 @@ use slice::Controls;
 use slice::Operands;
 use slice::Paths;
 
-// An entry of a select: 0, M, P, A:B, all ones, C, PCIN, PCIN shifted, P shifted, RND, the CARRYIN path, a sign or its complement.
+// An entry of a select: 0, M, P, A:B, all ones, C, PCIN, PCIN shifted, P shifted, RND, the CARRYIN path, a sign or its
+// complement, the carry of the slice below.
 pub enum Place {
     Zero,
     M,
@@ -28,6 +29,7 @@ pub enum Place {
     NotPcinBit47,
     PBit47,
     NotPBit47,
+    CarryBelow,
 }
 
 // The place of each operand.
@@ -58,6 +60,7 @@ fn place_number(place: Place) -> u64
         Place::NotPcinBit47 => 12,
         Place::PBit47 => 13,
         Place::NotPBit47 => 14,
+        Place::CarryBelow => 15,
     }
 }
 
@@ -110,6 +113,7 @@ fn cin_place(select: u64) -> Place
     match select {
         0 => Place::Carryin,
         1 => Place::NotPcinBit47,
+        2 => Place::CarryBelow,
         3 => Place::PcinBit47,
         5 => Place::NotPBit47,
         7 => Place::PBit47,
@@ -159,6 +163,7 @@ fn value_at(place: Place, a: Attributes, r: Registers, s: Paths, x: Cascade, m: 
         Place::NotPcinBit47 => 1 - sign(x.p),
         Place::PBit47 => sign(r.p),
         Place::NotPBit47 => 1 - sign(r.p),
+        Place::CarryBelow => x.carry,
     }
 }
 

@@ -1,4 +1,5 @@
 pub mod Unique
 pub mod Fits
 pub mod Searching
+pub mod Putting
 pub mod Values

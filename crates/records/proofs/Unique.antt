@@ -1,6 +1,10 @@
--- No second result fits the contract that a public function carries: of one call, two results that both meet its `ensures` (`Post`, as
--- rattle reads it from the source) are equal. Assumes nothing.
-use mathlib.Core.Path.{sym, _∙_}
+-- No second outcome fits the contract that a public function carries: of one call, two results, or two contents of the lent words, that
+-- both meet its `ensures` (`Post`, as rattle reads it from the source) are equal. Assumes nothing.
+use mathlib.Core.Path.{_≡_, sym, _∙_}
+use contract.Lifetimes.{Lfts}
+use denote.Ref.{now}
+use denote.Triple.Clauses.{AtExit}
+use borrow.Fn.Kinds.{Dens, resT, endedOf}
 use Rattle.word.proofs.Unique.{Once}
 use Rattle.records.proofs.Attributes.cleared.Kinds as attributes-cleared
 use Rattle.records.proofs.Attributes.cleared.Reads as attributes-cleared-reads
@@ -22,6 +26,10 @@ use Rattle.records.proofs.Attributes.of.Kinds as attributes-of
 use Rattle.records.proofs.Attributes.of.Reads as attributes-of-reads
 use Rattle.records.proofs.Registers.of.Kinds as registers-of
 use Rattle.records.proofs.Registers.of.Reads as registers-of-reads
+use Rattle.records.proofs.Registers.put.Kinds as put
+use Rattle.records.proofs.Registers.put.Reads as put-reads
+use Rattle.records.proofs.Registers.put_back.Kinds as put-back
+use Rattle.records.proofs.Registers.put_back.Reads as put-back-reads
 use Rattle.records.proofs.Ports.of.Kinds as ports-of
 use Rattle.records.proofs.Ports.of.Reads as ports-of-reads
 
@@ -57,3 +65,13 @@ registers-of-once _ _ _ _ _ _ a b = a ∙ sym b
 
 pub ports-of-once : Once ports-of.ps ports-of.r ports-of-reads.Post
 ports-of-once _ _ _ _ _ _ a b = a ∙ sym b
+
+-- x .1 .0 are the lent words at exit
+pub put-once : (κs : Lfts 1) (args : Dens κs put.ps) (r₁ r₂ : resT put.r κs .Denot) (x₁ x₂ : AtExit (endedOf 1 put.ps put.r) κs)
+    → put-reads.Post κs args r₁ x₁ → put-reads.Post κs args r₂ x₂ → now (x₁ .1 .0) ≡ now (x₂ .1 .0)
+put-once κs args r₁ r₂ x₁ x₂ a b = a ∙ sym b
+
+pub put-back-once : (κs : Lfts 1) (args : Dens κs put-back.ps) (r₁ r₂ : resT put-back.r κs .Denot)
+    (x₁ x₂ : AtExit (endedOf 1 put-back.ps put-back.r) κs)
+    → put-back-reads.Post κs args r₁ x₁ → put-back-reads.Post κs args r₂ x₂ → now (x₁ .1 .0) ≡ now (x₂ .1 .0)
+put-back-once κs args r₁ r₂ x₁ x₂ a b = a ∙ sym b

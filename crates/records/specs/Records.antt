@@ -10,18 +10,18 @@ use Rattle.records.specs.declared.Registers.{Registers}
 use Rattle.records.specs.declared.Ports.{Ports}
 use Rattle.records.specs.declared.Outputs.{Outputs}
 
--- Attributes 22 (02, Ask 1), registers 18, ports 11, outputs 6 (02, Ask 4) a slice
+-- Attributes 22 (02, Ask 1), registers 19 (02, Ask 7), ports 11, outputs 7 (02, Ask 4 and 7) a slice
 abbrev pub attributeWords : ℕ
 attributeWords = 22
 
 abbrev pub registerWords : ℕ
-registerWords = 18
+registerWords = 19
 
 abbrev pub portWords : ℕ
 portWords = 11
 
 abbrev pub outputWords : ℕ
-outputWords = 6
+outputWords = 7
 
 -- The width of every word, in one table a record. AREG, BREG, the CASCREGs and USE_SIMD have two bits, and their list beside (`legal`,
 -- `listed`, `splitFits`)
@@ -29,7 +29,7 @@ abbrev pub attributeWidths : List ℕ
 attributeWidths = 2 ∷ 2 ∷ 2 ∷ 2 ∷ 1 ∷ 1 ∷ 1 ∷ 1 ∷ 1 ∷ 1 ∷ 1 ∷ 1 ∷ 1 ∷ 1 ∷ 1 ∷ 1 ∷ 1 ∷ 1 ∷ 48 ∷ 48 ∷ 48 ∷ 2 ∷ []
 
 abbrev pub registerWidths : List ℕ
-registerWidths = 30 ∷ 30 ∷ 18 ∷ 18 ∷ 48 ∷ 27 ∷ 27 ∷ 45 ∷ 48 ∷ 9 ∷ 4 ∷ 5 ∷ 3 ∷ 1 ∷ 1 ∷ 1 ∷ 1 ∷ 1 ∷ []
+registerWidths = 30 ∷ 30 ∷ 18 ∷ 18 ∷ 48 ∷ 27 ∷ 27 ∷ 45 ∷ 48 ∷ 9 ∷ 4 ∷ 5 ∷ 3 ∷ 1 ∷ 1 ∷ 1 ∷ 1 ∷ 1 ∷ 1 ∷ []
 
 abbrev pub portWidths : List ℕ
 portWidths = 30 ∷ 18 ∷ 48 ∷ 27 ∷ 9 ∷ 4 ∷ 5 ∷ 3 ∷ 1 ∷ 13 ∷ 10 ∷ []
@@ -117,6 +117,7 @@ registersOf ws =
       pbd = getD ws 15 0;
       pdpast = getD ws 16 0;
       pbdpast = getD ws 17 0;
+      carry = getD ws 18 0;
     }
 
 abbrev pub registersWords : Registers → List ℕ
@@ -139,6 +140,7 @@ registersWords r =
     ∷ r .pbd
     ∷ r .pdpast
     ∷ r .pbdpast
+    ∷ r .carry
     ∷ []
 
 abbrev pub portsOf : List ℕ → Ports
@@ -181,6 +183,7 @@ outputsOf ws =
       overflow = getD ws 3 0;
       underflow = getD ws 4 0;
       preaddwrap = getD ws 5 0;
+      carry = getD ws 6 0;
     }
 
 abbrev pub outputsWords : Outputs → List ℕ
@@ -191,4 +194,5 @@ outputsWords r =
     ∷ r .overflow
     ∷ r .underflow
     ∷ r .preaddwrap
+    ∷ r .carry
     ∷ []

@@ -3,7 +3,7 @@
 ghost use mathlib.Core.Path.{_≡_};
 ghost use Prim.Native.Nat.{_≤_};
 ghost use lib.ListN.{length, replicate};
-ghost use Rattle.lent.specs.Words.{enough};
+ghost use Rattle.lent.specs.Words.{enough, stored};
 ghost use Rattle.records.specs.Records.{attributeWords, attributesOf, attributesWords, registerWords, registersOf, registersWords, portWords, portsOf, portsWords, outputWords, outputsOf, outputsWords};
 
 // A slice's settings.
@@ -180,10 +180,11 @@ pub struct Registers {
     pub pbd: u64,
     pub pdpast: u64,
     pub pbdpast: u64,
+    pub carry: u64,
 }
 
 impl Registers {
-    pub const WORDS: usize = 18;
+    pub const WORDS: usize = 19;
     // The width of every word, in the words' order.
     pub const WIDTHS: [u64; Registers::WORDS] = [
         30,
@@ -199,6 +200,7 @@ impl Registers {
         4,
         5,
         3,
+        1,
         1,
         1,
         1,
@@ -229,6 +231,7 @@ impl Registers {
             pbd: 0,
             pdpast: 0,
             pbdpast: 0,
+            carry: 0,
         }
     }
 
@@ -255,6 +258,7 @@ impl Registers {
             pbd: words[15],
             pdpast: words[16],
             pbdpast: words[17],
+            carry: words[18],
         }
     }
 
@@ -266,6 +270,62 @@ impl Registers {
             return Registers::cleared();
         }
         Registers::read(words)
+    }
+
+    // Puts the words in a stretch of lent words. In a stretch of another length nothing is put.
+    pub fn put(self, words: &mut [u64])
+        ensures { λ _. ⌜ now (words .exit) ≡ stored (now (words .entry)) (registersWords self) ⌝ }
+    {
+        if words.len() != Registers::WORDS {
+            return;
+        }
+        words[0] = self.a1;
+        words[1] = self.a2;
+        words[2] = self.b1;
+        words[3] = self.b2;
+        words[4] = self.c;
+        words[5] = self.d;
+        words[6] = self.ad;
+        words[7] = self.m;
+        words[8] = self.p;
+        words[9] = self.opmode;
+        words[10] = self.alumode;
+        words[11] = self.inmode;
+        words[12] = self.carryinsel;
+        words[13] = self.carryin;
+        words[14] = self.pd;
+        words[15] = self.pbd;
+        words[16] = self.pdpast;
+        words[17] = self.pbdpast;
+        words[18] = self.carry;
+    }
+
+    // The same from the last word to the first: two ways in code that put in one order are compiled as one, which is dearer.
+    pub fn put_back(self, words: &mut [u64])
+        ensures { λ _. ⌜ now (words .exit) ≡ stored (now (words .entry)) (registersWords self) ⌝ }
+    {
+        if words.len() != Registers::WORDS {
+            return;
+        }
+        words[18] = self.carry;
+        words[17] = self.pbdpast;
+        words[16] = self.pdpast;
+        words[15] = self.pbd;
+        words[14] = self.pd;
+        words[13] = self.carryin;
+        words[12] = self.carryinsel;
+        words[11] = self.inmode;
+        words[10] = self.alumode;
+        words[9] = self.opmode;
+        words[8] = self.p;
+        words[7] = self.m;
+        words[6] = self.ad;
+        words[5] = self.d;
+        words[4] = self.c;
+        words[3] = self.b2;
+        words[2] = self.b1;
+        words[1] = self.a2;
+        words[0] = self.a1;
     }
 
     pub fn words(self) -> [u64; Registers::WORDS]
@@ -290,6 +350,7 @@ impl Registers {
             self.pbd,
             self.pdpast,
             self.pbdpast,
+            self.carry,
         ]
     }
 }
@@ -389,10 +450,11 @@ pub struct Outputs {
     pub overflow: u64,
     pub underflow: u64,
     pub preaddwrap: u64,
+    pub carry: u64,
 }
 
 impl Outputs {
-    pub const WORDS: usize = 6;
+    pub const WORDS: usize = 7;
 
     // Every word 0.
     pub fn cleared() -> Outputs
@@ -405,6 +467,7 @@ impl Outputs {
             overflow: 0,
             underflow: 0,
             preaddwrap: 0,
+            carry: 0,
         }
     }
 
@@ -418,6 +481,7 @@ impl Outputs {
             self.overflow,
             self.underflow,
             self.preaddwrap,
+            self.carry,
         ]
     }
 }

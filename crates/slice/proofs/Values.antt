@@ -3,14 +3,14 @@ use mathlib.Core.Path.{_≡_, refl}
 use mathlib.Core.List.{List, [], _∷_, _++_}
 use lib.ListN.{replicate}
 use Prim.Native.Nat.{ℕ, _+_, _-_, _*_, _^_}
-use Rattle.unit.specs.Unit.{arithmetic, lanes, logicRows, unitResult, splitResult, wrappedSum, preAdder, product, load}
+use Rattle.unit.specs.Unit.{arithmetic, lanes, logicRows, unitResult, splitResult, carryOut, wrappedSum, preAdder, product, load}
 use Rattle.unit.specs.Detector.{unmasked, detected}
 use Rattle.records.specs.declared.Attributes.{Attributes}
 use Rattle.records.specs.declared.Registers.{Registers}
 use Rattle.records.specs.declared.Ports.{Ports}
 use Rattle.slice.specs.declared.inputs.Cascade.{Cascade}
 use Rattle.records.specs.Records.{attributesOf, registersOf, portsOf, outputsWords}
-use Rattle.slice.specs.Slice.{controlsOf, selectsOf, pathsOf, aSide, dSide, preAddedOf, leftOf, rightOf, productOf, operandsOf, sliceOperands, resultOf, settledOf, sliceSettled, outputsOfSettled, cascadeOf, edge, nextOf, sliceOutputs, sliceCascade, sliceNext}
+use Rattle.slice.specs.Slice.{controlsOf, selectsOf, pathsOf, aSide, dSide, preAddedOf, leftOf, rightOf, productOf, operandsOf, sliceOperands, resultOf, settledCarry, settledOf, sliceSettled, outputsOfSettled, cascadeOf, edge, nextOf, sliceOutputs, sliceCascade, sliceNext}
 
 -- settings, of which all others are 0
 abbrev plain : Attributes
@@ -52,7 +52,7 @@ abbrev empty : Registers
 empty = registersOf []
 
 abbrev bottom : Cascade
-bottom = record { a = 0; b = 0; p = 0 }
+bottom = record { a = 0; b = 0; p = 0; carry = 0 }
 
 -- A 3, B 4, C 5, D 6, and the control words
 abbrev given : (opmode alumode inmode carryinsel carryin ce rst : ℕ) → Ports
@@ -64,7 +64,7 @@ p-of a r p x = sliceOutputs a r p x .p
 
 pub record Clocks : Type 0 where
   -- 01, "Port listings": attributes all 0, B 5, C 7, OPMODE 15 shows 12
-  pub worked : outputsWords (sliceOutputs plain empty (portsOf (0 ∷ 5 ∷ 7 ∷ 0 ∷ 15 ∷ [])) bottom) ≡ 12 ∷ 0 ∷ 0 ∷ 0 ∷ 0 ∷ 0 ∷ []
+  pub worked : outputsWords (sliceOutputs plain empty (portsOf (0 ∷ 5 ∷ 7 ∷ 0 ∷ 15 ∷ [])) bottom) ≡ 12 ∷ 0 ∷ 0 ∷ 0 ∷ 0 ∷ 0 ∷ 0 ∷ []
   -- X and Y both 1 contribute M once: 3 times 4, not twice that
   pub once : p-of multiplying empty (given 5 0 0 0 0 0 0) bottom ≡ 12
   -- the pre-adder: D + A, D - A, and A cleared by INMODE bit 1, times B
@@ -74,8 +74,8 @@ pub record Clocks : Type 0 where
   -- X 3 is A:B, A above B
   pub a-above-b : p-of plain empty (given 3 0 0 0 0 0 0) bottom ≡ 3 * 2 ^ 18 + 4
   -- Z 1 is PCIN, and 5 is PCIN shifted
-  pub z-pcin : p-of plain empty (given 16 0 0 0 0 0 0) (record { a = 0; b = 0; p = 2 ^ 18 }) ≡ 2 ^ 18
-  pub z-shifted : p-of plain empty (given 80 0 0 0 0 0 0) (record { a = 0; b = 0; p = 2 ^ 18 }) ≡ 2
+  pub z-pcin : p-of plain empty (given 16 0 0 0 0 0 0) (record { a = 0; b = 0; p = 2 ^ 18; carry = 0 }) ≡ 2 ^ 18
+  pub z-shifted : p-of plain empty (given 80 0 0 0 0 0 0) (record { a = 0; b = 0; p = 2 ^ 18; carry = 0 }) ≡ 2
   -- CARRYINSEL 1 is the complement of PCIN bit 47, and 3 the bit
   pub cin-not-pcin : p-of plain empty (given 0 0 0 1 0 0 0) bottom ≡ 1
   pub cin-pcin : p-of plain empty (given 0 0 0 3 0 0 0) bottom ≡ 0
@@ -87,8 +87,8 @@ pub record Clocks : Type 0 where
       × (p-of (split 1) empty (given 56 0 0 0 1 0 0) bottom ≡ 16777215 * 2 ^ 24 + 5)
   pub four12 : p-of (split 2) empty (given 56 0 0 0 1 0 0) bottom ≡ (4095 * 2 ^ 24 + 4095 * 2 ^ 12 + 4095) * 2 ^ 12 + 5
   -- with PREG 1 the registers show; with 0 what settles, and no flag
-  pub shows-register : outputsWords (sliceOutputs registered (showing 9 0 1 0 0) (given 3 0 0 0 0 0 0) bottom) ≡ 9 ∷ 0 ∷ 1 ∷ 0 ∷ 0 ∷ 0 ∷ []
-  pub shows-settled : outputsWords (sliceOutputs plain (showing 9 0 1 0 0) (given 0 0 0 0 0 0 0) bottom) ≡ 0 ∷ 1 ∷ 0 ∷ 0 ∷ 0 ∷ 0 ∷ []
+  pub shows-register : outputsWords (sliceOutputs registered (showing 9 0 1 0 0) (given 3 0 0 0 0 0 0) bottom) ≡ 9 ∷ 0 ∷ 1 ∷ 0 ∷ 0 ∷ 0 ∷ 0 ∷ []
+  pub shows-settled : outputsWords (sliceOutputs plain (showing 9 0 1 0 0) (given 0 0 0 0 0 0 0) bottom) ≡ 0 ∷ 1 ∷ 0 ∷ 0 ∷ 0 ∷ 0 ∷ 0 ∷ []
   -- ACOUT and BCOUT: the first register where AREG is 2 and ACASCREG 1, else the path
   pub cascade-1 : (sliceCascade deep1 held (given 0 0 0 0 0 0 0) bottom .a ≡ 11) × (sliceCascade deep1 held (given 0 0 0 0 0 0 0) bottom .b ≡ 33)
   pub cascade-2 : (sliceCascade deep2 held (given 0 0 0 0 0 0 0) bottom .a ≡ 22) × (sliceCascade deep2 held (given 0 0 0 0 0 0 0) bottom .b ≡ 44)
@@ -131,10 +131,10 @@ pub record Flags : Type 0 where
       × (sliceNext (masking (2 ^ 48 - 1)) empty (given 12 0 0 0 0 256 0) bottom .pbd ≡ 1)
   pub none-of-all-masked : flags (masking (2 ^ 48 - 1)) 1 1 1 1 ≡ 0 ∷ 0 ∷ []
   -- the last legal sums and the first outside, and a swing over the whole range each way
-  pub one-over : added 0 1 (showing (2 ^ 46 - 1) 1 0 0 0) ≡ 2 ^ 46 ∷ 0 ∷ 0 ∷ 1 ∷ 0 ∷ 0 ∷ []
-  pub one-under : added 3 1 (showing (2 ^ 48 - 2 ^ 46) 0 1 0 0) ≡ (2 ^ 48 - 2 ^ 46 - 1) ∷ 0 ∷ 0 ∷ 0 ∷ 1 ∷ 0 ∷ []
-  pub whole-swing-down : added 3 (2 ^ 47 - 1) (showing (2 ^ 46 - 1) 1 0 0 0) ≡ (2 ^ 48 - 2 ^ 46) ∷ 0 ∷ 1 ∷ 0 ∷ 0 ∷ 0 ∷ []
-  pub whole-swing-up : added 0 (2 ^ 47 - 1) (showing (2 ^ 48 - 2 ^ 46) 0 1 0 0) ≡ (2 ^ 46 - 1) ∷ 1 ∷ 0 ∷ 0 ∷ 0 ∷ 0 ∷ []
+  pub one-over : added 0 1 (showing (2 ^ 46 - 1) 1 0 0 0) ≡ 2 ^ 46 ∷ 0 ∷ 0 ∷ 1 ∷ 0 ∷ 0 ∷ 0 ∷ []
+  pub one-under : added 3 1 (showing (2 ^ 48 - 2 ^ 46) 0 1 0 0) ≡ (2 ^ 48 - 2 ^ 46 - 1) ∷ 0 ∷ 0 ∷ 0 ∷ 1 ∷ 0 ∷ 0 ∷ []
+  pub whole-swing-down : added 3 (2 ^ 47 - 1) (showing (2 ^ 46 - 1) 1 0 0 0) ≡ (2 ^ 48 - 2 ^ 46) ∷ 0 ∷ 1 ∷ 0 ∷ 0 ∷ 0 ∷ 0 ∷ []
+  pub whole-swing-up : added 0 (2 ^ 47 - 1) (showing (2 ^ 48 - 2 ^ 46) 0 1 0 0) ≡ (2 ^ 46 - 1) ∷ 1 ∷ 0 ∷ 0 ∷ 0 ∷ 0 ∷ 0 ∷ []
 
 -- the mark of a slice with AMULTSEL 1, by ADREG, PREG and USE_MULT
 abbrev marking : (adreg preg mult : ℕ) → Attributes
@@ -163,8 +163,54 @@ pub record Wraps : Type 0 where
   -- a clock later AD holds the wrapped word, and the mark is that of the sides of that clock
   pub not-held : (sliceNext (marking 1 0 1) empty (sides 4 1 67108863 64) bottom .ad ≡ 67108864)
       × (mark (marking 1 0 1) (sliceNext (marking 1 0 1) empty (sides 4 1 67108863 64) bottom) (sides 4 1 1 0) ≡ 0)
-  -- it is the last of six
-  pub sixth : outputsWords (sliceOutputs (marking 0 0 1) empty (sides 4 1 67108863 0) bottom) ≡ 0 ∷ 1 ∷ 0 ∷ 0 ∷ 0 ∷ 1 ∷ []
+  -- it is the sixth output
+  pub sixth : outputsWords (sliceOutputs (marking 0 0 1) empty (sides 4 1 67108863 0) bottom) ≡ 0 ∷ 1 ∷ 0 ∷ 0 ∷ 0 ∷ 1 ∷ 0 ∷ []
+
+-- 02, Ask 7: USE_SIMD and PREG; A:B all ones, and C; OPMODE 51 adds them, X A:B and Z C
+abbrev adding : (simd preg : ℕ) → Attributes
+adding simd preg = attributesOf (replicate 10 0 ++ (preg ∷ replicate 10 0 ++ (simd ∷ [])))
+
+abbrev fed : (c opmode alumode carryinsel carryin ce rst : ℕ) → Ports
+fed c opmode alumode carryinsel carryin ce rst =
+    portsOf ((2 ^ 30 - 1) ∷ (2 ^ 18 - 1) ∷ c ∷ 0 ∷ opmode ∷ alumode ∷ 0 ∷ carryinsel ∷ carryin ∷ ce ∷ rst ∷ [])
+
+-- a slice below that shows a carry
+abbrev carrying : Cascade
+carrying = record { a = 0; b = 0; p = 0; carry = 1 }
+
+-- the carry's register 1
+abbrev carried : Registers
+carried = registersOf (replicate 18 0 ++ (1 ∷ []))
+
+-- P and the carry that a slice shows, and the carry's register after the edge
+abbrev shows : Attributes → Registers → Ports → Cascade → List ℕ
+shows a r p x = (sliceOutputs a r p x .p) ∷ (sliceOutputs a r p x .carry) ∷ []
+
+abbrev loads : Registers → (ce rst : ℕ) → ℕ
+loads r ce rst = sliceNext (adding 0 1) r (fed 1 51 0 0 0 ce rst) bottom .carry
+
+pub record Carries : Type 0 where
+  -- 2^48 - 1 and 1 make 2^48
+  pub made : shows (adding 0 0) empty (fed 1 51 0 0 0 0 0) bottom ≡ 0 ∷ 1 ∷ []
+  pub one-less : shows (adding 0 0) empty (fed 0 51 0 0 0 0 0) bottom ≡ (2 ^ 48 - 1) ∷ 0 ∷ []
+  -- the same with ALUMODE 3, which is 1 - (2^48 - 1), with Y 3, with W 2, in TWO24
+  pub mode-3 : shows (adding 0 0) empty (fed 1 51 3 0 0 0 0) bottom ≡ 2 ∷ 0 ∷ []
+  pub y-3 : shows (adding 0 0) empty (fed 1 63 0 0 0 0 0) bottom ≡ 1 ∷ 0 ∷ []
+  pub w-2 : shows (adding 0 0) empty (fed 1 307 0 0 0 0 0) bottom ≡ 0 ∷ 0 ∷ []
+  pub two24-hides : shows (adding 1 0) empty (fed 1 51 0 0 0 0 0) bottom ≡ (16777215 * 2 ^ 24) ∷ 0 ∷ []
+  -- CIN alone makes it: by CARRYIN, and by CARRYINSEL 2 from the slice below, which is 0 at the bottom
+  pub by-carryin : shows (adding 0 0) empty (fed 0 51 0 0 1 0 0) bottom ≡ 0 ∷ 1 ∷ []
+  pub by-below : shows (adding 0 0) empty (fed 0 51 0 2 0 0 0) carrying ≡ 0 ∷ 1 ∷ []
+  pub at-bottom : shows (adding 0 0) empty (fed 0 51 0 2 1 0 0) bottom ≡ (2 ^ 48 - 1) ∷ 0 ∷ []
+  -- with PREG 1 the register is shown, and goes up; with PREG 0 what settles
+  pub register-shown : (shows (adding 0 1) empty (fed 1 51 0 0 0 0 0) bottom ≡ 0 ∷ 0 ∷ [])
+      × (shows (adding 0 1) carried (fed 0 51 0 0 0 0 0) bottom ≡ 0 ∷ 1 ∷ [])
+  pub goes-up : (sliceCascade (adding 0 1) carried (fed 0 51 0 0 0 0 0) bottom .carry ≡ 1)
+      × (sliceCascade (adding 0 0) carried (fed 0 51 0 0 0 0 0) bottom .carry ≡ 0)
+      × (sliceCascade (adding 0 0) empty (fed 1 51 0 0 0 0 0) bottom .carry ≡ 1)
+  -- it loads by CE P, is kept without, and RST P clears it whatever CE is; another reset does not
+  pub loaded : (loads empty 256 0 ≡ 1) × (loads empty (8191 - 256) 0 ≡ 0) × (loads carried 0 0 ≡ 1)
+  pub cleared : (loads carried 0 32 ≡ 0) × (loads carried 8191 32 ≡ 0) × (loads carried 0 (1023 - 32) ≡ 1)
 
 pub record Edges : Type 0 where
   -- A2 loads A1 when AREG is 2, else the input; A1 loads the input
@@ -186,7 +232,7 @@ pub record Edges : Type 0 where
   pub m-loads : sliceNext plain empty (given 0 0 0 0 0 128 0) bottom .m ≡ 12
 
 pub clocks : Clocks
-unfolding sliceOutputs sliceCascade outputsOfSettled cascadeOf sliceSettled settledOf resultOf sliceOperands operandsOf selectsOf productOf leftOf rightOf preAddedOf aSide dSide controlsOf pathsOf splitResult unitResult lanes arithmetic logicRows wrappedSum preAdder product detected unmasked
+unfolding sliceOutputs sliceCascade outputsOfSettled cascadeOf sliceSettled settledOf settledCarry carryOut resultOf sliceOperands operandsOf selectsOf productOf leftOf rightOf preAddedOf aSide dSide controlsOf pathsOf splitResult unitResult lanes arithmetic logicRows wrappedSum preAdder product detected unmasked
 clocks =
     record {
       worked = refl;
@@ -211,7 +257,7 @@ clocks =
     }
 
 pub flag-values : Flags
-unfolding sliceOutputs outputsOfSettled sliceNext nextOf edge load sliceSettled settledOf resultOf sliceOperands operandsOf selectsOf productOf leftOf rightOf preAddedOf aSide dSide controlsOf pathsOf splitResult unitResult lanes arithmetic logicRows wrappedSum preAdder product detected unmasked
+unfolding sliceOutputs outputsOfSettled sliceNext nextOf edge load sliceSettled settledOf settledCarry carryOut resultOf sliceOperands operandsOf selectsOf productOf leftOf rightOf preAddedOf aSide dSide controlsOf pathsOf splitResult unitResult lanes arithmetic logicRows wrappedSum preAdder product detected unmasked
 flag-values =
     record {
       over = refl;
@@ -234,7 +280,7 @@ flag-values =
     }
 
 pub wraps : Wraps
-unfolding sliceOutputs outputsOfSettled sliceNext nextOf edge load sliceSettled settledOf resultOf sliceOperands operandsOf selectsOf productOf leftOf rightOf preAddedOf aSide dSide controlsOf pathsOf splitResult unitResult lanes arithmetic logicRows wrappedSum preAdder product detected unmasked
+unfolding sliceOutputs outputsOfSettled sliceNext nextOf edge load sliceSettled settledOf settledCarry carryOut resultOf sliceOperands operandsOf selectsOf productOf leftOf rightOf preAddedOf aSide dSide controlsOf pathsOf splitResult unitResult lanes arithmetic logicRows wrappedSum preAdder product detected unmasked
 wraps =
     record {
       over-by-sum = (refl, refl);
@@ -248,8 +294,27 @@ wraps =
       sixth = refl;
     }
 
+pub carries : Carries
+unfolding sliceOutputs sliceCascade cascadeOf outputsOfSettled sliceNext nextOf edge load sliceSettled settledOf settledCarry carryOut resultOf sliceOperands operandsOf selectsOf productOf leftOf rightOf preAddedOf aSide dSide controlsOf pathsOf splitResult unitResult lanes arithmetic logicRows wrappedSum preAdder product detected unmasked
+carries =
+    record {
+      made = refl;
+      one-less = refl;
+      mode-3 = refl;
+      y-3 = refl;
+      w-2 = refl;
+      two24-hides = refl;
+      by-carryin = refl;
+      by-below = refl;
+      at-bottom = refl;
+      register-shown = (refl, refl);
+      goes-up = (refl, refl, refl);
+      loaded = (refl, refl, refl);
+      cleared = (refl, refl, refl);
+    }
+
 pub edges : Edges
-unfolding sliceNext nextOf edge load sliceSettled settledOf resultOf sliceOperands operandsOf selectsOf productOf leftOf rightOf preAddedOf aSide dSide controlsOf pathsOf splitResult unitResult lanes arithmetic logicRows wrappedSum preAdder product detected unmasked
+unfolding sliceNext nextOf edge load sliceSettled settledOf settledCarry carryOut resultOf sliceOperands operandsOf selectsOf productOf leftOf rightOf preAddedOf aSide dSide controlsOf pathsOf splitResult unitResult lanes arithmetic logicRows wrappedSum preAdder product detected unmasked
 edges =
     record {
       a2-from-a1 = (refl, refl);

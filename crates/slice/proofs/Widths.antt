@@ -8,17 +8,18 @@ use lib.Pow.{pow-pos}
 use Rattle.unit.specs.Choice.{bit}
 use Rattle.unit.proofs.Laws.{mux-lt, cond-lt, load-lt, pre-adder-lt, product-lt, pd-lt, pbd-lt}
 use Rattle.unit.proofs.Lanes.{result-lt}
+use Rattle.unit.proofs.Carry.{carry-lt}
 use Rattle.records.specs.declared.Attributes.{Attributes}
 use Rattle.records.specs.declared.Registers.{Registers}
 use Rattle.records.specs.declared.Ports.{Ports}
 use Rattle.slice.specs.declared.inputs.Cascade.{Cascade}
 use Rattle.records.specs.Records.{registerWidths, portWidths, registersWords, portsWords}
 use Rattle.records.proofs.Fits.{Fit, none, more, fit-at}
-use Rattle.slice.specs.Slice.{pathsOf, preAddedOf, productOf, resultOf, settledOf, sliceSettled, outputsOfSettled, cascadeOf, edge, nextOf, sliceOutputs, sliceCascade, sliceNext}
+use Rattle.slice.specs.Slice.{pathsOf, preAddedOf, productOf, resultOf, settledCarry, settledOf, sliceSettled, outputsOfSettled, cascadeOf, edge, nextOf, sliceOutputs, sliceCascade, sliceNext}
 
--- the cascade: A 30 bits, B 18, P 48
+-- the cascade: A 30 bits, B 18, P 48, the carry 1
 abbrev pub CascadeFit : Cascade → Type 0
-CascadeFit x = Fit (30 ∷ 18 ∷ 48 ∷ []) (x .a ∷ x .b ∷ x .p ∷ [])
+CascadeFit x = Fit (30 ∷ 18 ∷ 48 ∷ 1 ∷ []) (x .a ∷ x .b ∷ x .p ∷ x .carry ∷ [])
 
 -- word i of a record that fits, in the order of its words
 word-lt : {widths words : List ℕ} → Fit widths words → (i : ℕ) → T (ltb i (length widths)) → getD words i 0 < 2 ^ getD widths i 0
@@ -30,17 +31,18 @@ edge-lt p rst ce w h k = load-lt (bit (p .rst) rst) (bit (p .ce) ce) (pow-pos w)
 
 module _ (a : Attributes) {r : Registers} {p : Ports} {x : Cascade} where
   pub cascade-fit : Fit registerWidths (registersWords r) → Fit portWidths (portsWords p) → CascadeFit x → CascadeFit (sliceCascade a r p x)
-  unfolding sliceCascade cascadeOf pathsOf sliceOutputs outputsOfSettled sliceSettled settledOf resultOf
+  unfolding sliceCascade cascadeOf pathsOf sliceOutputs outputsOfSettled sliceSettled settledOf settledCarry resultOf
   cascade-fit rs ps xs =
       let ain = mux-lt (a .«a_input») (word-lt ps 0 tt) (word-lt xs 0 tt) in
       let bin = mux-lt (a .«b_input») (word-lt ps 1 tt) (word-lt xs 1 tt) in
       more (cond-lt (eqb (a .areg) 2 && eqb (a .acascreg) 1) (word-lt rs 0 tt) (mux-lt (a .areg) ain (word-lt rs 1 tt)))
       (more (cond-lt (eqb (a .breg) 2 && eqb (a .bcascreg) 1) (word-lt rs 2 tt) (mux-lt (a .breg) bin (word-lt rs 3 tt)))
-      (more (mux-lt (a .preg) (result-lt _ _ _ _ _ _ _) (word-lt rs 8 tt)) none))
+      (more (mux-lt (a .preg) (result-lt _ _ _ _ _ _ _) (word-lt rs 8 tt))
+      (more (mux-lt (a .preg) (carry-lt _ _ _ _ _ _ _) (word-lt rs 18 tt)) none)))
 
   pub next-fit : Fit registerWidths (registersWords r) → Fit portWidths (portsWords p) → CascadeFit x
       → Fit registerWidths (registersWords (sliceNext a r p x))
-  unfolding sliceNext nextOf pathsOf sliceSettled settledOf resultOf productOf preAddedOf
+  unfolding sliceNext nextOf pathsOf sliceSettled settledOf settledCarry resultOf productOf preAddedOf
   next-fit rs ps xs =
       let ain = mux-lt (a .«a_input») (word-lt ps 0 tt) (word-lt xs 0 tt) in
       let bin = mux-lt (a .«b_input») (word-lt ps 1 tt) (word-lt xs 1 tt) in
@@ -62,4 +64,5 @@ module _ (a : Attributes) {r : Registers} {p : Ports} {x : Cascade} where
       (more (edge-lt p 5 8 1 (word-lt rs 15 tt) (pbd-lt _ _ _))
       (more (edge-lt p 5 8 1 (word-lt rs 16 tt) (word-lt rs 14 tt))
       (more (edge-lt p 5 8 1 (word-lt rs 17 tt) (word-lt rs 15 tt))
-      none)))))))))))))))))
+      (more (edge-lt p 5 8 1 (word-lt rs 18 tt) (carry-lt _ _ _ _ _ _ _))
+      none))))))))))))))))))

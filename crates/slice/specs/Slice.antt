@@ -2,17 +2,20 @@
 -- from the slice below. Each layer is a function of the layers before it. Selects and modes that are refused give 0. Assumes nothing.
 use Prim.Native.Nat.{ℕ, _+_, _-_, _*_, _/_, _%_, _^_}
 use mathlib.Core.Bool.{cond, _&&_}
-use mathlib.Core.List.{[], _∷_}
+use mathlib.Core.Path.{_≡_}
+use mathlib.Core.List.{List, [], _∷_}
 use lib.Dec.{eqb}
 use Rattle.word.specs.Word.{extend, shifted}
+use Rattle.lent.specs.Words.{stored, enough}
 use Rattle.unit.specs.Choice.{mux, choose, bit}
-use Rattle.unit.specs.Unit.{ones, splitResult, preAdder, product, load}
+use Rattle.unit.specs.Unit.{ones, splitResult, carryOut, preAdder, product, load}
 use Rattle.unit.specs.Detector.{detected}
 use Rattle.unit.specs.declared.PreAdded.{PreAdded}
 use Rattle.records.specs.declared.Attributes.{Attributes}
 use Rattle.records.specs.declared.Registers.{Registers}
 use Rattle.records.specs.declared.Ports.{Ports}
 use Rattle.records.specs.declared.Outputs.{Outputs}
+use Rattle.records.specs.Records.{registerWords, registersOf, registersWords}
 use Rattle.slice.specs.declared.inputs.Cascade.{Cascade}
 use Rattle.slice.specs.declared.inputs.Controls.{Controls}
 use Rattle.slice.specs.declared.inputs.Selects.{Selects}
@@ -94,12 +97,13 @@ operandsOf a r k s x m =
           choose
           (0 ∷ x .p ∷ r .p ∷ s .c ∷ 0 ∷ shifted 48 17 (x .p) ∷ shifted 48 17 (r .p) ∷ [])
           (selectsOf (k .opmode) .z);
-      -- CARRYINSEL: 0 the CARRYIN path; 1 not PCIN bit 47; 3 PCIN bit 47; 5 not P bit 47; 7 P bit 47
+      -- CARRYINSEL: 0 the CARRYIN path; 1 not PCIN bit 47; 2 "the carry shown by the slice below" (02, Ask 7); 3 PCIN bit 47;
+      -- 5 not P bit 47; 7 P bit 47
       cin =
           choose
           (s .carryin
           ∷ (1 - bit (x .p) 47)
-          ∷ 0
+          ∷ x .carry
           ∷ bit (x .p) 47
           ∷ 0
           ∷ (1 - bit (r .p) 47)
@@ -119,9 +123,14 @@ sliceOperands a r p x =
 unfoldable pub resultOf : (simd alumode : ℕ) → Operands → ℕ
 resultOf simd alumode o = splitResult simd alumode (o .w) (o .x) (o .y) (o .z) (o .cin)
 
--- What settles before the edge: AD and its mark, M, the unit's result, and the detector on it
-unfoldable pub settledOf : Attributes → Product → (result : ℕ) → Settled
-settledOf a t result =
+-- The carry beside that result, by USE_SIMD, ALUMODE and the selects of W and Y in effect (02, Ask 7)
+unfoldable pub settledCarry : Attributes → Controls → Operands → ℕ
+settledCarry a k o =
+    carryOut (a .«use_simd») (k .alumode) (selectsOf (k .opmode) .w) (selectsOf (k .opmode) .y) (o .x) (o .z) (o .cin)
+
+-- What settles before the edge: AD and its mark, M, the unit's result, the detector on it, and the carry
+unfoldable pub settledOf : Attributes → Product → (result carry : ℕ) → Settled
+settledOf a t result carry =
     record {
       ad = t .ad;
       wrap = t .wrap;
@@ -129,11 +138,14 @@ settledOf a t result =
       p = result;
       pd = detected result (a .pattern) (a .mask) .pd;
       pbd = detected result (a .pattern) (a .mask) .pbd;
+      carry = carry;
     }
 
 unfoldable pub sliceSettled : Attributes → Registers → Ports → Cascade → Settled
 sliceSettled a r p x =
-    settledOf a (productOf a r (controlsOf a r p) (pathsOf a r p x)) (resultOf (a .«use_simd») (controlsOf a r p .alumode) (sliceOperands a r p x))
+    settledOf a (productOf a r (controlsOf a r p) (pathsOf a r p x))
+    (resultOf (a .«use_simd») (controlsOf a r p .alumode) (sliceOperands a r p x))
+    (settledCarry a (controlsOf a r p) (sliceOperands a r p x))
 
 -- A past word 1 with PD and PBD both 0 (02, Ask 2): P matched, or differed in every bit, and now does neither
 abbrev pub strayed : (past pd pbd : ℕ) → ℕ
@@ -141,7 +153,7 @@ strayed past pd pbd = cond (eqb past 1 && eqb pd 0 && eqb pbd 0) 1 0
 
 -- With PREG 1 the outputs show registers P, PD, PBD; with 0, the settled values. OVERFLOW is PDPAST 1, UNDERFLOW is PBDPAST 1, each
 -- with PD and PBD both 0 (02, Ask 2), read from the registers; both 0 when PREG is 0. PREADDWRAP is the pre-adder's mark "as it settles
--- before AD" (02, Ask 4), whatever ADREG and PREG are
+-- before AD" (02, Ask 4), whatever ADREG and PREG are. The carry is "that register with PREG 1, else the settled carry" (02, Ask 7)
 unfoldable pub outputsOfSettled : Attributes → Registers → Settled → Outputs
 outputsOfSettled a r t =
     record {
@@ -151,15 +163,17 @@ outputsOfSettled a r t =
       overflow = mux (a .preg) 0 (strayed (r .pdpast) (r .pd) (r .pbd));
       underflow = mux (a .preg) 0 (strayed (r .pbdpast) (r .pd) (r .pbd));
       preaddwrap = t .wrap;
+      carry = mux (a .preg) (t .carry) (r .carry);
     }
 
--- ACOUT is the A path, but A1 when AREG is 2 and ACASCREG is 1; B alike; PCOUT is the output P
-unfoldable pub cascadeOf : Attributes → Registers → Paths → (p : ℕ) → Cascade
-cascadeOf a r s p =
+-- ACOUT is the A path, but A1 when AREG is 2 and ACASCREG is 1; B alike; PCOUT is the output P, and the carry goes up as it is shown
+unfoldable pub cascadeOf : Attributes → Registers → Paths → (p carry : ℕ) → Cascade
+cascadeOf a r s p carry =
     record {
       a = cond (eqb (a .areg) 2 && eqb (a .acascreg) 1) (r .a1) (s .a);
       b = cond (eqb (a .breg) 2 && eqb (a .bcascreg) 1) (r .b1) (s .b);
       p = p;
+      carry = carry;
     }
 
 -- A register's load, by its bits of RST and CE
@@ -190,6 +204,7 @@ nextOf a r p s t =
       pbd = edge p 5 8 (r .pbd) (t .pbd);
       pdpast = edge p 5 8 (r .pdpast) (r .pd);
       pbdpast = edge p 5 8 (r .pbdpast) (r .pbd);
+      carry = edge p 5 8 (r .carry) (t .carry);  -- "loads and clears with P" (02, Ask 7)
     }
 
 -- What a slice shows, hands up, and holds after the edge
@@ -197,10 +212,16 @@ unfoldable pub sliceOutputs : Attributes → Registers → Ports → Cascade →
 sliceOutputs a r p x = outputsOfSettled a r (sliceSettled a r p x)
 
 unfoldable pub sliceCascade : Attributes → Registers → Ports → Cascade → Cascade
-sliceCascade a r p x = cascadeOf a r (pathsOf a r p x) (sliceOutputs a r p x .p)
+sliceCascade a r p x = cascadeOf a r (pathsOf a r p x) (sliceOutputs a r p x .p) (sliceOutputs a r p x .carry)
 
 unfoldable pub sliceNext : Attributes → Registers → Ports → Cascade → Registers
 sliceNext a r p x = nextOf a r p (pathsOf a r p x) (sliceSettled a r p x)
 
 unfoldable pub stepOf : Attributes → Registers → Ports → Cascade → Step
-stepOf a r p x = record { next = sliceNext a r p x; shown = sliceOutputs a r p x; up = sliceCascade a r p x }
+stepOf a r p x = record { shown = sliceOutputs a r p x; up = sliceCascade a r p x }
+
+-- A clock on lent words: what is given away, and the registers' words after the edge. Of words that are not as many as a slice has none is
+-- written, and of too few none is read
+pub record Stepped (a : Attributes) (ws : List ℕ) (p : Ports) (x : Cascade) (v : Step) (ws′ : List ℕ) : Type 0 where
+  pub given : v ≡ stepOf a (registersOf (enough registerWords ws)) p x
+  pub registers : ws′ ≡ stored ws (registersWords (sliceNext a (registersOf (enough registerWords ws)) p x))

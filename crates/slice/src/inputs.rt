@@ -6,11 +6,12 @@ use records::Attributes;
 use records::Ports;
 use records::Registers;
 
-// What a slice gets from the slice below: ACIN, BCIN, PCIN.
+// What a slice gets from the slice below: ACIN, BCIN, PCIN, and the carry.
 pub struct Cascade {
     pub a: u64,
     pub b: u64,
     pub p: u64,
+    pub carry: u64,
 }
 
 // The control words in effect.

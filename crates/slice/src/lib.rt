@@ -8,6 +8,7 @@ mod operands;
 
 pub use edge::Step;
 pub use edge::cascade_of;
+pub use edge::settled_carry;
 pub use edge::stepped;
 pub use inputs::Cascade;
 pub use inputs::Controls;

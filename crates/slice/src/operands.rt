@@ -72,15 +72,16 @@ fn z_operand(select: u64, below: u64, own: u64, c: u64) -> u64
     }
 }
 
-fn carry_in(select: u64, carryin: u64, below: u64, own: u64) -> u64
+fn carry_in(select: u64, carryin: u64, below: u64, carry: u64, own: u64) -> u64
     ensures { λ v.
-        ⌜ v ≡ choose (carryin ∷ (1 - bit below 47) ∷ 0 ∷ bit below 47 ∷ 0 ∷ (1 - bit own 47) ∷ 0 ∷ bit own 47 ∷ []) select ⌝ }
+        ⌜ v ≡ choose (carryin ∷ (1 - bit below 47) ∷ carry ∷ bit below 47 ∷ 0 ∷ (1 - bit own 47) ∷ 0 ∷ bit own 47 ∷ []) select ⌝ }
 {
     if select == 0 {
         return carryin;
     }
     match select {
         1 => 1 - bit(below, 47),
+        2 => carry,
         3 => bit(below, 47),
         5 => 1 - bit(own, 47),
         7 => bit(own, 47),
@@ -98,6 +99,6 @@ pub fn selected(a: Attributes, r: Registers, k: Controls, s: Paths, x: Cascade, 
         x: x_operand(select.x, m, r.p, s.a, s.b),
         y: y_operand(select.y, s.c),
         z: z_operand(select.z, x.p, r.p, s.c),
-        cin: carry_in(k.carryinsel, s.carryin, x.p, r.p),
+        cin: carry_in(k.carryinsel, s.carryin, x.p, x.carry, r.p),
     }
 }

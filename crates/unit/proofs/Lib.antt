@@ -1,5 +1,6 @@
 pub mod Laws
 pub mod Lanes
+pub mod Carry
 pub mod LegalSums
 pub mod Masks
 pub mod PreAdder

@@ -2,8 +2,8 @@
 -- rattle reads it from the source) are equal. Assumes nothing.
 use mathlib.Core.Path.{sym, _∙_}
 use Rattle.word.proofs.Unique.{Once}
-use Rattle.unit.proofs.split_result.Kinds as split-result-kinds
-use Rattle.unit.proofs.split_result.Reads as split-result-reads
+use Rattle.unit.proofs.summed.Kinds as summed-kinds
+use Rattle.unit.proofs.summed.Reads as summed-reads
 use Rattle.unit.proofs.pre_adder.Kinds as pre-adder-kinds
 use Rattle.unit.proofs.pre_adder.Reads as pre-adder-reads
 use Rattle.unit.proofs.multiply.Kinds as multiply-kinds
@@ -16,11 +16,13 @@ use Rattle.unit.proofs.load.Kinds as load-kinds
 use Rattle.unit.proofs.load.Reads as load-reads
 use Rattle.unit.proofs.in_lanes.Kinds as in-lanes-kinds
 use Rattle.unit.proofs.in_lanes.Reads as in-lanes-reads
+use Rattle.unit.proofs.carry_out.Kinds as carry-out-kinds
+use Rattle.unit.proofs.carry_out.Reads as carry-out-reads
 use Rattle.unit.proofs.adder.Kinds as adder-kinds
 use Rattle.unit.proofs.adder.Reads as adder-reads
 
-pub split-result-once : Once split-result-kinds.ps split-result-kinds.r split-result-reads.Post
-split-result-once _ _ _ _ _ _ a b = a ∙ sym b
+pub summed-once : Once summed-kinds.ps summed-kinds.r summed-reads.Post
+summed-once _ _ _ _ _ _ a b = a ∙ sym b
 
 pub pre-adder-once : Once pre-adder-kinds.ps pre-adder-kinds.r pre-adder-reads.Post
 pre-adder-once _ _ _ _ _ _ a b = a ∙ sym b
@@ -39,6 +41,9 @@ load-once _ _ _ _ _ _ a b = a ∙ sym b
 
 pub in-lanes-once : Once in-lanes-kinds.ps in-lanes-kinds.r in-lanes-reads.Post
 in-lanes-once _ _ _ _ _ _ a b = a ∙ sym b
+
+pub carry-out-once : Once carry-out-kinds.ps carry-out-kinds.r carry-out-reads.Post
+carry-out-once _ _ _ _ _ _ a b = a ∙ sym b
 
 pub adder-once : Once adder-kinds.ps adder-kinds.r adder-reads.Post
 adder-once _ _ _ _ _ _ a b = a ∙ sym b

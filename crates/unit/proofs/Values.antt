@@ -4,7 +4,7 @@ use Prim.Native.Nat.{ℕ, _+_, _-_, _*_, _^_}
 use mathlib.Core.Path.{_≡_, refl}
 use Rattle.word.specs.Word.{extend}
 use Rattle.unit.specs.declared.PreAdded.{PreAdded}
-use Rattle.unit.specs.Unit.{ones, arithmetic, lanes, logicRows, unitResult, splitResult, wrappedSum, preAdder, product, load, adder}
+use Rattle.unit.specs.Unit.{ones, arithmetic, lanes, logicRows, unitResult, splitResult, carryOut, wrappedSum, preAdder, product, load, adder}
 use Rattle.unit.specs.Detector.{unmasked, detected}
 
 -- a logic mode's result at X 12 and Z 10, with a CIN that is ignored
@@ -44,6 +44,13 @@ pub record Values : Type 0 where
   pub lanes1 : splitResult 2 1 0 0 0 (1 + 2 * 2 ^ 12 + 3 * 2 ^ 24 + 4 * 2 ^ 36) 1 ≡ 4095 + 4093 * 2 ^ 12 + 4092 * 2 ^ 24 + 4091 * 2 ^ 36
   -- logic sees 48 bits
   pub logic : (splitResult 2 5 0 12 0 10 0 ≡ 281474976710649) × (splitResult 1 12 0 (ones 48) 0 (2 ^ 24 - 1) 0 ≡ 2 ^ 24 - 1)
+  -- the carry (02, Ask 7): 2^48 is the least sum that makes it, by the words or by CIN alone, and leaves the result 0
+  pub carried : (carryOut 0 0 0 0 (ones 48) 1 0 ≡ 1) × (splitResult 0 0 0 (ones 48) 0 1 0 ≡ 0) × (carryOut 0 0 0 0 (ones 48) 0 0 ≡ 0)
+  pub by-cin : (carryOut 0 0 0 0 (ones 48) 0 1 ≡ 1) × (carryOut 0 0 0 0 0 (ones 48) 1 ≡ 1) × (carryOut 0 0 0 0 0 0 1 ≡ 0)
+  pub most-carried : (carryOut 0 0 0 0 (ones 48) (ones 48) 1 ≡ 1) × (splitResult 0 0 0 (ones 48) 0 (ones 48) 1 ≡ ones 48)
+  -- and 0 with ALUMODE 3 or a logic mode, W select 2, Y select 3, TWO24
+  pub hidden : (carryOut 0 3 0 0 (ones 48) 1 0 ≡ 0) × (carryOut 0 12 0 0 (ones 48) 1 0 ≡ 0) × (carryOut 0 0 2 0 (ones 48) 1 0 ≡ 0)
+      × (carryOut 0 0 0 3 (ones 48) 1 0 ≡ 0) × (carryOut 1 0 0 0 (ones 48) 1 0 ≡ 0)
   -- d - a below 0
   pub subtracts : preAdder 1 0 1 ≡ added 134217727 0
   -- the pre-adder's mark (02, Ask 4): one over the highest, which is 01's case 8, and one under the lowest, by sum and by difference
@@ -76,7 +83,7 @@ pub record Values : Type 0 where
   pub accepts : (adder 0 5 7 0 0 0 ≡ 12) × (adder 0 12 (ones 48) 10 1 12 ≡ 14)
 
 pub values : Values
-unfolding arithmetic lanes logicRows unitResult splitResult wrappedSum preAdder product load adder unmasked detected
+unfolding arithmetic lanes logicRows unitResult splitResult carryOut wrappedSum preAdder product load adder unmasked detected
 values =
     record {
       mode2 = refl;
@@ -96,6 +103,10 @@ values =
       lanes2 = refl;
       lanes1 = refl;
       logic = (refl, refl);
+      carried = (refl, refl, refl);
+      by-cin = (refl, refl, refl);
+      most-carried = (refl, refl);
+      hidden = (refl, refl, refl, refl, refl);
       subtracts = refl;
       over = (refl, refl);
       under = (refl, refl);

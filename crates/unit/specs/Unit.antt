@@ -9,6 +9,7 @@ use lib.IntN.{ℤ, pos, negℤ, _+ℤ_, _-ℤ_, _*ℤ_}
 use lib.Signed.{leZ}
 use Rattle.word.specs.Word.{word, signed}
 use Rattle.unit.specs.declared.PreAdded.{PreAdded}
+use Rattle.unit.specs.declared.WithCarry.{WithCarry}
 use Rattle.unit.specs.Choice.{mux, choose}
 
 -- w bits, all ones
@@ -75,6 +76,17 @@ laneCount simd = choose (1 ∷ 2 ∷ 4 ∷ []) simd
 unfoldable pub splitResult : (simd mode w x y z cin : ℕ) → ℕ
 splitResult simd mode w x y z cin =
     cond (ltb mode 4) (lanes (laneWidth simd) (laneCount simd) mode w x y z cin) (unitResult mode w x y z cin)
+
+-- Carry cascade (02, Ask 7): "when ONE48, ALUMODE 0, W select 0 and Y select 0 are in effect, the carry is 1 exactly if X + Z + CIN is at
+-- least 2^48; in every other setting it is 0 here"
+unfoldable pub carryOut : (simd mode wSelect ySelect x z cin : ℕ) → ℕ
+carryOut simd mode wSelect ySelect x z cin =
+    cond (eqb simd 0 && eqb mode 0 && eqb wSelect 0 && eqb ySelect 0) (cond (leb (2 ^ 48) (x + z + cin)) 1 0) 0
+
+-- the unit's result, and the carry beside it
+unfoldable pub summedOf : (simd mode wSelect ySelect w x y z cin : ℕ) → WithCarry
+summedOf simd mode wSelect ySelect w x y z cin =
+    record { result = splitResult simd mode w x y z cin; carry = carryOut simd mode wSelect ySelect x z cin }
 
 -- Pre-adder: d + a, or d − a where subtract is not 0, modulo 2 ^ w
 unfoldable pub wrappedSum : (w subtract d a : ℕ) → ℕ

@@ -3,7 +3,7 @@
 ghost use mathlib.Core.Path.{_≡_};
 ghost use mathlib.Core.Bool.{cond};
 ghost use Rattle.word.specs.Word.{extend};
-ghost use Rattle.unit.specs.Unit.{lanes, laneWidth, laneCount, unitResult, splitResult, trueSum, preAdder, product, load, within, forbidden, adder};
+ghost use Rattle.unit.specs.Unit.{lanes, laneWidth, laneCount, unitResult, splitResult, carryOut, summedOf, trueSum, preAdder, product, load, within, forbidden, adder};
 ghost use Rattle.unit.specs.Detector.{detected};
 
 mod arithmetic;
@@ -39,14 +39,57 @@ fn split_or_logic(simd: u64, mode: u64, w: u64, x: u64, y: u64, z: u64, cin: u64
     }
 }
 
-// The adder and logic unit, by USE_SIMD. What most slices do stands apart, so that the compiler sets it into their clock.
-pub fn split_result(simd: u64, mode: u64, w: u64, x: u64, y: u64, z: u64, cin: u64) -> u64
-    ensures { λ r. ⌜ r ≡ splitResult simd mode w x y z cin ⌝ }
+// The carry that the slice above may take, of the selects of W and Y and the operands that are left: where it shows, 1 exactly if
+// X + Z + CIN is at least 2^48.
+pub fn carry_out(simd: u64, mode: u64, wsel: u64, ysel: u64, x: u64, z: u64, cin: u64) -> u64
+    ensures { λ r. ⌜ r ≡ carryOut simd mode wsel ysel x z cin ⌝ }
 {
-    if (simd == 0) & (mode < 4) {
-        arithmetic::lane(48, mode, w, x, y, z, cin)
-    } else {
-        split_or_logic(simd, mode, w, x, y, z, cin)
+    if !((simd == 0) & (mode == 0) & (wsel == 0) & (ysel == 0)) {
+        return 0;
+    }
+    let sum = std::num::wrapping_add_u64(std::num::wrapping_add_u64(x, z), cin);
+    // An operand past 48 bits is enough by itself; without one the sum doesn't wrap.
+    one_if((ONES < x) | (ONES < z) | (ONES < cin) | (ONES < sum))
+}
+
+// What the unit makes: its result, and the carry beside it.
+pub struct WithCarry {
+    pub result: u64,
+    pub carry: u64,
+}
+
+// The adder and logic unit, by USE_SIMD, of the selects of W and Y and of all operands. What most slices do stands apart, so that the
+// compiler sets it into their clock.
+pub fn summed(
+    simd: u64,
+    mode: u64,
+    wsel: u64,
+    ysel: u64,
+    w: u64,
+    x: u64,
+    y: u64,
+    z: u64,
+    cin: u64,
+) -> WithCarry
+    ensures { λ r. ⌜ r ≡ summedOf simd mode wsel ysel w x y z cin ⌝ }
+{
+    if simd == 0 {
+        if mode == 0 {
+            return WithCarry {
+                result: arithmetic::lane(48, 0, w, x, y, z, cin),
+                carry: carry_out(0, 0, wsel, ysel, x, z, cin),
+            };
+        }
+        if mode < 4 {
+            return WithCarry {
+                result: arithmetic::lane(48, mode, w, x, y, z, cin),
+                carry: 0,
+            };
+        }
+    }
+    WithCarry {
+        result: split_or_logic(simd, mode, w, x, y, z, cin),
+        carry: 0,
     }
 }
 

@@ -44,6 +44,7 @@ pub mod reg {
     pub const INMODE: usize = 11;
     pub const CARRYINSEL: usize = 12;
     pub const CARRYIN: usize = 13;
+    pub const CARRYOUT: usize = 18;
 }
 
 /// Port words.
@@ -65,7 +66,7 @@ pub mod port {
 #[derive(Clone, Copy)]
 pub struct Slice {
     pub attributes: [u64; 22],
-    pub registers: [u64; 18],
+    pub registers: [u64; 19],
     pub ports: [u64; 11],
 }
 
@@ -74,7 +75,7 @@ pub type Set<'a> = &'a [(usize, u64)];
 
 /// A slice of zeros but for the words set.
 pub fn slice(attributes: Set, registers: Set, ports: Set) -> Slice {
-    let mut slice = Slice { attributes: [0; 22], registers: [0; 18], ports: [0; 11] };
+    let mut slice = Slice { attributes: [0; 22], registers: [0; 19], ports: [0; 11] };
     attributes.iter().for_each(|&(word, value)| slice.attributes[word] = value);
     registers.iter().for_each(|&(word, value)| slice.registers[word] = value);
     ports.iter().for_each(|&(word, value)| slice.ports[word] = value);
@@ -83,7 +84,7 @@ pub fn slice(attributes: Set, registers: Set, ports: Set) -> Slice {
 
 impl Slice {
     /// The registers after the clock, and the outputs it showed.
-    pub fn clocked(&self) -> ([u64; 18], [u64; 6]) {
+    pub fn clocked(&self) -> ([u64; 19], [u64; 7]) {
         clocked(&self.attributes, &self.registers, &self.ports)
     }
 }
@@ -98,12 +99,12 @@ pub fn stretches(lent: &[&[u64]]) -> String {
 /// The registers after the clock, and the outputs it showed.
 pub fn clocked(
     attributes: &[u64; 22],
-    registers: &[u64; 18],
+    registers: &[u64; 19],
     ports: &[u64; 11],
-) -> ([u64; 18], [u64; 6]) {
-    let lent = stretches(&[attributes, registers, ports, &[9; 6]]);
+) -> ([u64; 19], [u64; 7]) {
+    let lent = stretches(&[attributes, registers, ports, &[9; 7]]);
     let reply = answer(&format!("clock 1 {lent}")).unwrap();
     let reply: Vec<u64> = reply.split(' ').map(|field| field.parse().unwrap()).collect();
-    assert_eq!((reply[0], reply[1], reply[24], reply[55]), (0, 22, 18, 6));
-    (reply[25..43].try_into().unwrap(), reply[56..].try_into().unwrap())
+    assert_eq!((reply[0], reply[1], reply[24], reply[56]), (0, 22, 19, 7));
+    (reply[25..44].try_into().unwrap(), reply[57..].try_into().unwrap())
 }

@@ -6,7 +6,7 @@ use Rattle.listing.proofs.print.put_slice.Tie as tie
 
 returns : tie.Need-returns
 returns c =
-    let given = c .before .before .before .before .before .before .before .before .before .before .before .before .before in
+    let given = c .before .before .before .before .before .before .before .before .before .before .before .before .before .before in
     slice-put (given .args .clock) (given .args .k) (given .args .at) (given .args .shown .now) (given .args .out .now) _ _ (given .pre .0) (given .pre .1)
     (c .before .before .put-line .ensures)
 
@@ -14,4 +14,4 @@ pub put-slice-spec : {M : Type 1} → statement M
 put-slice-spec =
     tie.close
     (tie.spec (λ c. search needs) (λ c. search needs) (λ c. search needs) (λ c. search needs) (λ c. search needs) (λ c. search needs)
-    (λ c. search needs) (λ c κs. search needs) (λ c. search needs) returns)
+    (λ c. search needs) (λ c. search needs) (λ c κs. search needs) (λ c. search needs) returns)

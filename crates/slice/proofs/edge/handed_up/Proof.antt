@@ -10,6 +10,7 @@ returns c = λ i. record {
   a = (c .before .before .before .pick .ensures) i;
   b = (c .pick2 .ensures) i;
   p = c .before .before .before .before .before .before .args .p;
+  carry = c .before .before .before .before .before .before .args .carry;
 }
 
 pub handed-up-spec : {M : Type 1} → statement M

@@ -7,7 +7,7 @@ use Rattle.slice.proofs.edge.next.Tie as tie
 returns : tie.Need-returns
 unfolding nextOf
 returns c =
-    let at-14 = c .before .before .before .before in
+    let at-14 = c .before .before .before .before .before in
     let at-10 = at-14 .before .before .before .before in
     let at-6 = at-10 .before .before .before .before in
     let at-2 = at-6 .before .before .before .before in
@@ -27,10 +27,11 @@ returns c =
       inmode = (at-14 .before .before .load12 .ensures) i;
       carryinsel = (at-14 .before .load13 .ensures) i;
       carryin = (at-14 .load14 .ensures) i;
-      pd = (c .before .before .before .load15 .ensures) i;
-      pbd = (c .before .before .load16 .ensures) i;
-      pdpast = (c .before .load17 .ensures) i;
-      pbdpast = (c .load18 .ensures) i;
+      pd = (c .before .before .before .before .load15 .ensures) i;
+      pbd = (c .before .before .before .load16 .ensures) i;
+      pdpast = (c .before .before .load17 .ensures) i;
+      pbdpast = (c .before .load18 .ensures) i;
+      carry = (c .load19 .ensures) i;
     }
 
 pub next-spec : {M : Type 1} → statement M
@@ -39,4 +40,5 @@ next-spec =
     (tie.spec (λ c κs. search needs) (λ c κs. search needs) (λ c κs. search needs) (λ c κs. search needs) (λ c κs. search needs)
     (λ c κs. search needs) (λ c κs. search needs) (λ c κs. search needs) (λ c κs. search needs) (λ c κs. search needs)
     (λ c κs. search needs) (λ c κs. search needs) (λ c κs. search needs) (λ c κs. search needs) (λ c κs. search needs)
-    (λ c κs. search needs) (λ c κs. search needs) (λ c κs. search needs) (λ c κs. search needs) (λ c κs. search needs) returns)
+    (λ c κs. search needs) (λ c κs. search needs) (λ c κs. search needs) (λ c κs. search needs) (λ c κs. search needs)
+    (λ c κs. search needs) returns)

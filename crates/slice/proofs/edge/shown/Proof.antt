@@ -29,18 +29,20 @@ returns : tie.Need-returns
 unfolding outputsOfSettled
 returns c =
     let at-overflow = c .before .before in
-    let at-pbd = at-overflow .before .before in
-    let start = at-pbd .before .before .before .before .before .before .args in
+    let at-p = at-overflow .before .before in
+    let start = at-p .before .before .before .before .before .before .before .args in
     λ i. record {
-      p = (at-pbd .before .before .mux .ensures) i;
-      patterndetect = (at-pbd .before .mux2 .ensures) i;
-      patternbdetect = (at-pbd .mux3 .ensures) i;
+      p = (at-p .mux4 .ensures) i;
+      patterndetect = (at-p .before .before .mux2 .ensures) i;
+      patternbdetect = (at-p .before .mux3 .ensures) i;
       overflow = (at-overflow .pick .ensures ∙ through-gate (start .a .preg) (start .r .pdpast) (start .r .pd) (start .r .pbd)) i;
       underflow = (c .pick2 .ensures ∙ through-gate (start .a .preg) (start .r .pbdpast) (start .r .pd) (start .r .pbd)) i;
       preaddwrap = start .t .wrap;
+      carry = (at-p .before .before .before .mux .ensures) i;
     }
 
 pub shown-spec : {M : Type 1} → statement M
 shown-spec =
     tie.close
-    (tie.spec (λ c κs. search needs) (λ c κs. search needs) (λ c κs. search needs) (λ c κs. search needs) (λ c κs. search needs) returns)
+    (tie.spec (λ c κs. search needs) (λ c κs. search needs) (λ c κs. search needs) (λ c κs. search needs) (λ c κs. search needs)
+    (λ c κs. search needs) returns)
