@@ -1,5 +1,5 @@
 // The four records of a slice (01, "The lent words"): their words by name and in their order, how many they are and how wide,
-// the record of a stretch of lent words, and the cleared slice.
+// the record of a stretch of lent words, its words put there, and the cleared slice.
 ghost use mathlib.Core.Path.{_≡_};
 ghost use Prim.Native.Nat.{_≤_};
 ghost use lib.ListN.{length, replicate};

@@ -1,5 +1,5 @@
-// One slice in one clock, by value: the control words in effect, what settles before an edge, what the slice shows and hands up,
-// and the registers after it. Every function takes every number.
+// One slice in one clock: the control words in effect, what settles before an edge, what the slice shows and hands up, and the registers
+// after it, which are put in the slice's own words. Every function takes every number.
 mod choice;
 mod edge;
 mod inputs;
