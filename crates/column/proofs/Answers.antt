@@ -1,6 +1,6 @@
--- Laws of the answer: where it is `Accepted` every check has passed, where it is not nothing is stored, and the slice that it reports is
--- below 24. Assumes nothing.
-use mathlib.Core.Path.{_≡_, refl, ap, sym, _∙_}
+-- Laws of the answer: where it is `Accepted` every check has passed and every slice has its edge, where it is not nothing is stored, and the
+-- slice that it reports is below 24. Assumes nothing.
+use mathlib.Core.Path.{_≡_, refl, ap, subst, sym, _∙_}
 use mathlib.Core.Logic.{⊎-elim}
 use mathlib.Core.Bool.{Bool, true, false, _&&_}
 use mathlib.Core.List.{List, [], _∷_}
@@ -13,7 +13,8 @@ use borrow.Author.Tests.{eqb-true, eq-eqb, ltb-true}
 use types.Run.{OneOf}
 use denote.Enum.Declared.{tagOf}
 use Rattle.word.proofs.Laws.{both-true}
-use Rattle.lent.specs.Refusing.{unless}
+use Rattle.lent.specs.Refusing.{unless, leaves}
+use Rattle.lent.proofs.Laws.{kept}
 use Rattle.records.specs.Records.{attributeWords, registerWords, portWords, outputWords}
 use Rattle.column.specs.declared.Check.{Check}
 use Rattle.column.specs.declared.Check.the-variants.{Attribute, Register, Port, Inmode, Opmode, Alumode, Carryinsel}
@@ -21,7 +22,9 @@ use Rattle.column.specs.declared.Answer.{Answer}
 use Rattle.column.specs.declared.Answer.the-variants.{Accepted, BadCount, BadLength, Broken, BadSlice}
 use Rattle.column.specs.declared.refusals.Found.{Found}
 use Rattle.column.specs.declared.refusals.Found.the-variants.{Nothing, At}
+use Rattle.column.specs.Column.{columnShown, columnNext}
 use Rattle.column.specs.Refusals.{checkNumber, numberOf, placeOf, fails, lowest, refuse, broken, rules, settings, countFits, lengthsFit, inputsFit, clockAnswer, clearAnswer, attributesAnswer, whyAnswer}
+use Rattle.column.specs.Calls.{Clocked}
 use Rattle.column.specs.Parts.{Lengths, Reaches, askedAnswer}
 use Rattle.column.proofs.Search.{few, lowest-says}
 use Rattle.column.proofs.Answer.{the-type}
@@ -98,13 +101,31 @@ right-lengths count at rs ps os p =
     let p4 = both-true (inputsFit count at rs ps) (eqb (length os) (outputWords * count)) (sym (lengths-parts count at rs ps os) ∙ p) in
     (input-lengths count at rs ps (p4 .0), eqb-true _ _ (p4 .1))
 
-pub accepted-ready : (count : ℕ) (at rs ps os : List ℕ) → clockAnswer count at rs ps os ≡ Accepted → Ready count at rs ps os
+-- an accepted clock has passed 1 and 2, and its settings are accepted
+clock-passes : (count : ℕ) (at rs ps os : List ℕ) → clockAnswer count at rs ps os ≡ Accepted
+    → (countFits count ≡ true) × (lengthsFit count at rs ps os ≡ true) × (settings count at rs ps ≡ Accepted)
 unfolding clockAnswer
-accepted-ready count at rs ps os p =
+clock-passes count at rs ps os p =
     let p1 = unless-passes (countFits count) BadCount _ (lit< tt) p in
     let p2 = unless-passes (lengthsFit count at rs ps os) BadLength (settings count at rs ps) (lit< tt) (p1 .1) in
-    let long = right-lengths count at rs ps os (p2 .0) in
-    record { few = few count (p1 .0); lengths = long .0; outputs = long .1 }
+    (p1 .0, p2 .0, p2 .1)
+
+pub accepted-ready : (count : ℕ) (at rs ps os : List ℕ) → clockAnswer count at rs ps os ≡ Accepted → Ready count at rs ps os
+accepted-ready count at rs ps os p =
+    let passed = clock-passes count at rs ps os p in
+    let long = right-lengths count at rs ps os (passed .1) in
+    record { few = few count (passed .0); lengths = long .0; outputs = long .1 }
+
+pub accepted-settings : (count : ℕ) (at rs ps os : List ℕ) → clockAnswer count at rs ps os ≡ Accepted → settings count at rs ps ≡ Accepted
+accepted-settings count at rs ps os p = clock-passes count at rs ps os p .2
+
+-- what an accepted clock leaves: every slice has had its edge
+pub accepted-leaves : {count : ℕ} {at rs ps os rs′ os′ : List ℕ} → Clocked count at rs ps os Accepted rs′ os′
+    → (rs′ ≡ columnNext count at rs ps) × (os′ ≡ columnShown count at rs ps)
+accepted-leaves {count} {at} {rs} {ps} {os} c = (
+  c .registers ∙ ap (λ (a : Answer). leaves (numberOf a) (columnNext count at rs ps) rs) (sym (c .answer)),
+  c .outputs ∙ ap (λ (a : Answer). leaves (numberOf a) (columnShown count at rs ps) os) (sym (c .answer)),
+)
 
 -- columns of the right count and lengths are answered by their settings
 pub clock-settings : (count : ℕ) (at rs ps os : List ℕ) → countFits count ≡ true → Lengths count at rs ps → length os ≡ outputWords * count
@@ -199,14 +220,27 @@ attributes-passed count at rs ps os p =
 
 -- ---- refused
 
--- an answer of another variant than the first has a number above 0, so what was there is kept
+-- an answer that is not `Accepted` has a number above 0
+pub not-accepted : (a : Answer) → (a ≡ Accepted → ⊥) → 0 < numberOf a
+not-accepted Accepted h = absurd (h refl)
+not-accepted BadCount h = lit< tt
+not-accepted BadLength h = lit< tt
+not-accepted (Broken check k) h = check-above check
+not-accepted BadSlice h = lit< tt
+
+-- so has one of another variant than the first
 pub refused : (a : Answer) → OneOf (1 ∷ 2 ∷ 3 ∷ 4 ∷ []) (tagOf the-type a) → 0 < numberOf a
-refused Accepted h =
-    absurd (⊎-elim (λ e. omega arith) (λ l. ⊎-elim (λ e. omega arith) (λ l. ⊎-elim (λ e. omega arith) (λ e. omega arith) l) l) h)
-refused BadCount h = lit< tt
-refused BadLength h = lit< tt
-refused (Broken check k) h = check-above check
-refused BadSlice h = lit< tt
+refused a h = not-accepted a (λ p. other (subst (λ (b : Answer). OneOf (1 ∷ 2 ∷ 3 ∷ 4 ∷ []) (tagOf the-type b)) p h))
+  where
+    other : OneOf (1 ∷ 2 ∷ 3 ∷ 4 ∷ []) (tagOf the-type Accepted) → ⊥
+    other = ⊎-elim (λ e. omega arith) (λ l. ⊎-elim (λ e. omega arith) (λ l. ⊎-elim (λ e. omega arith) (λ e. omega arith) l) l)
+
+-- "A refusal stores nothing, in registers or in outputs"
+pub refused-keeps : {count : ℕ} {at rs ps os : List ℕ} {r : Answer} {rs′ os′ : List ℕ} → Clocked count at rs ps os r rs′ os′ → 0 < numberOf r
+    → (rs′ ≡ rs) × (os′ ≡ os)
+refused-keeps {count} {at} {rs} {ps} {os} {r} c h =
+    let above : 0 < numberOf (clockAnswer count at rs ps os) = subst (λ (a : Answer). 0 < numberOf a) (c .answer) h in
+    (c .registers ∙ sym (kept _ above (columnNext count at rs ps) rs), c .outputs ∙ sym (kept _ above (columnShown count at rs ps) os))
 
 -- ---- the number, and the slice that is reported
 

@@ -1,6 +1,6 @@
 -- Words stay within their widths: the registers after every accepted clock, the cascade on the way, and a cleared column's registers.
 -- Assumes nothing.
-use mathlib.Core.Path.{_≡_}
+use mathlib.Core.Path.{_≡_, sym}
 use mathlib.Core.Bool.{false}
 use mathlib.Core.List.{List}
 use Prim.Native.Nat.{ℕ, zero, suc, _*_, _<_}
@@ -13,11 +13,12 @@ use Rattle.slice.proofs.Widths.{CascadeFit, cascade-fit, next-fit}
 use Rattle.column.specs.declared.Check.the-variants.{Register, Port}
 use Rattle.column.specs.declared.Answer.the-variants.{Accepted}
 use Rattle.column.specs.Column.{stretch, registersAt, portsAt, cascadeInto, nextAt, columnNext}
-use Rattle.column.specs.Refusals.{broken, fails, settings}
+use Rattle.column.specs.Refusals.{broken, fails, settings, clockAnswer}
+use Rattle.column.specs.Calls.{Clocked}
 use Rattle.column.proofs.Search.{lowest-none}
 use Rattle.column.proofs.Stacks.{stretch-stacked, stacked-zeros}
 use Rattle.column.proofs.Edges.{next-length}
-use Rattle.column.proofs.Answers.{accepted-none}
+use Rattle.column.proofs.Answers.{accepted-none, accepted-settings, accepted-leaves}
 
 -- ---- an accepted clock
 
@@ -49,6 +50,17 @@ module _ (count : ℕ) (at rs ps : List ℕ) (accepted : settings count at rs ps
   unfolding columnNext
   column-within k h =
       rw (stretch-stacked (nextAt at rs ps) registerWords (next-length at rs ps) k count h) (fit-within (next-within k h))
+
+-- so they are after every clock whose answer is `Accepted`
+pub clock-within : (count : ℕ) (at rs ps os : List ℕ) → clockAnswer count at rs ps os ≡ Accepted
+    → (k : ℕ) → k < count → exceeds registerWidths (stretch registerWords k (columnNext count at rs ps)) ≡ false
+clock-within count at rs ps os p = column-within count at rs ps (accepted-settings count at rs ps os p)
+
+-- and so are the registers that such a call of `clock` leaves: after every accepted clock every register is within its width
+pub accepted-within : {count : ℕ} {at rs ps os rs′ os′ : List ℕ} → Clocked count at rs ps os Accepted rs′ os′
+    → (k : ℕ) → k < count → exceeds registerWidths (stretch registerWords k rs′) ≡ false
+accepted-within {count} {at} {rs} {ps} {os} c k h =
+    rw (accepted-leaves c .0) (clock-within count at rs ps os (sym (c .answer)) k h)
 
 -- ---- a cleared column
 

@@ -3,6 +3,7 @@ pub mod Stacks
 pub mod Answers
 pub mod Edges
 pub mod Fits
+pub mod Held
 pub mod Passing
 pub mod Before
 pub mod Truth

@@ -11,7 +11,6 @@ use lib.Arith.{mod-mul}
 use lib.Dec.{lit<}
 use lib.ListN.{getD}
 use lib.Pow.{pow-pos, pow-add, field, mod-mod-pow}
-use Rattle.lent.specs.Refusing.{leaves}
 use Rattle.records.specs.declared.Registers.{Registers}
 use Rattle.records.specs.declared.Ports.{Ports}
 use Rattle.records.specs.declared.Outputs.{Outputs}
@@ -19,13 +18,12 @@ use Rattle.records.specs.Records.{registerWords, outputWords, registersOf}
 use Rattle.slice.specs.Slice.{sliceOperands, sliceNext}
 use Rattle.slice.proofs.Adding.{Adder, Given, adds, cin-by-0, cin-by-2}
 use Rattle.slice.proofs.Registered.{registered-outputs}
-use Rattle.column.specs.declared.Answer.{Answer}
 use Rattle.column.specs.declared.Answer.the-variants.{Accepted}
-use Rattle.column.specs.Refusals.{numberOf}
 use Rattle.column.specs.Calls.{Clocked}
 use Rattle.column.specs.Column.{stretch, attributesAt, registersAt, portsAt, cascadeInto, shownAt, nextAt, columnShown, columnNext, after}
 use Rattle.column.proofs.Stacks.{stretch-stacked}
 use Rattle.column.proofs.Edges.{next-length, shown-length}
+use Rattle.column.proofs.Answers.{accepted-leaves}
 use Rattle.column.proofs.Before.{carry-is-register}
 
 -- ---- a sum by pieces of 48 bits
@@ -207,14 +205,6 @@ module _ (count : ℕ) (at ps ps′ ps″ : List ℕ) (k u v : ℕ) (hu : u < 2 
       given-of : {m n m′ n′ : ℕ} {p : Ports} → m ≡ m′ → n ≡ n′ → Given m n p → Given m′ n′ p
       given-of {m} {n} {m′} {n′} {p} e f g = subst (λ (x : ℕ). Given x n′ p) e (subst (λ (y : ℕ). Given m y p) f g)
 
-  -- what an accepted clock leaves
-  one-on : {rs ps os rs′ os′ : List ℕ} → Clocked count at rs ps os Accepted rs′ os′
-      → (rs′ ≡ columnNext count at rs ps) × (os′ ≡ columnShown count at rs ps)
-  one-on {rs} {ps} {os} c = (
-    c .registers ∙ ap (λ (a : Answer). leaves (numberOf a) (columnNext count at rs ps) rs) (sym (c .answer)),
-    c .outputs ∙ ap (λ (a : Answer). leaves (numberOf a) (columnShown count at rs ps) os) (sym (c .answer)),
-  )
-
   -- the P that slice j shows
   shown-word : (rs ps : List ℕ) (j : ℕ) → j < count
       → getD (stretch outputWords j (columnShown count at rs ps)) 0 0 ≡ getD (shownAt at rs ps j) 0 0
@@ -229,14 +219,14 @@ module _ (count : ℕ) (at ps ps′ ps″ : List ℕ) (k u v : ℕ) (hu : u < 2 
     unfolding after
     wide-sum =
         let turns = inTurn ps ps′ ps″ in
-        let after-1 : rs₁ ≡ after count at rs turns 1 = one-on first .0 in
-        let after-2 : rs₂ ≡ after count at rs turns 2 = one-on second .0 ∙ ap (λ (xs : List ℕ). columnNext count at xs ps′) after-1 in
+        let after-1 : rs₁ ≡ after count at rs turns 1 = accepted-leaves first .0 in
+        let after-2 : rs₂ ≡ after count at rs turns 2 = accepted-leaves second .0 ∙ ap (λ (xs : List ℕ). columnNext count at xs ps′) after-1 in
         let shows = stack-shows count at rs turns 0 k 2 u v two-stack in (
-          ap (λ (ws : List ℕ). getD (stretch outputWords k ws) 0 0) (one-on second .1)
+          ap (λ (ws : List ℕ). getD (stretch outputWords k ws) 0 0) (accepted-leaves second .1)
               ∙ ap (λ (xs : List ℕ). getD (stretch outputWords k (columnShown count at xs ps′)) 0 0) after-1
               ∙ shown-word (after count at rs turns 1) ps′ k (le-of-lt (halves .there))
               ∙ shows 0 (lit< tt) ∙ sym (mod-mod-pow (u + v) 48 48 ∙ low-half (u + v)),
-          ap (λ (ws : List ℕ). getD (stretch outputWords (suc k) ws) 0 0) (one-on third .1)
+          ap (λ (ws : List ℕ). getD (stretch outputWords (suc k) ws) 0 0) (accepted-leaves third .1)
               ∙ ap (λ (xs : List ℕ). getD (stretch outputWords (suc k) (columnShown count at xs ps″)) 0 0) after-2
               ∙ shown-word (after count at rs turns 2) ps″ (suc k) (halves .there)
               ∙ shows 1 (lit< tt) ∙ sym (field (u + v) 48 48),

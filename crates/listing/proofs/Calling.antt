@@ -1,20 +1,23 @@
 -- What `play` leaves, from its test and its run. Assumes nothing.
-use mathlib.Core.Path.{_≡_, ap, _∙_, subst}
-use mathlib.Core.Bool.{Bool, true, false, _&&_}
+use mathlib.Core.Path.{_≡_, sym, ap, _∙_, subst}
+use mathlib.Core.Bool.{Bool, true, false, not, _&&_}
 use mathlib.Core.List.{List}
 use Prim.Native.Nat.{ℕ, _*_, _-_}
 use native.Mathlib.Omega.{arith}
 use lib.Dec.{eqb, leb, ltb}
 use lib.ListN.{length}
-use borrow.Author.Tests.{eqb-true, leb-true, ltb-true}
+use borrow.Author.Tests.{eqb-true, leb-true, ltb-true, not-true, not-false}
 use Rattle.records.specs.Records.{attributeWords, registerWords, portWords, outputWords}
 use Rattle.text.specs.Bytes.{mostBytes}
 use Rattle.text.proofs.Paste.{put-none}
-use Rattle.listing.specs.declared.player.Player.{Player}
+use Rattle.player.specs.declared.Player.{Player}
 use Rattle.listing.specs.declared.machine.Run.{Run}
-use Rattle.listing.specs.Limits.{mostSlices, countBound}
-use Rattle.listing.specs.Listing.{Play, working}
-use Rattle.listing.specs.Calls.{playerNumbers, playerOf, playerWords, Lent, lending, playOf, lentOf, lengthsFit, numbersFit, fitsBy, fits, lentAfter, goesAfter, outcomeOf, PiecePlayed}
+use Rattle.player.specs.Limits.{mostSlices, countBound}
+use Rattle.player.specs.Numbers.{working}
+use Rattle.listing.specs.Listing.{Play}
+use Rattle.player.specs.Numbers.{playerNumbers, playerOf, playerWords}
+use Rattle.player.specs.Fitting.{lengthsFit, numbersFit, fits as fitsBy}
+use Rattle.listing.specs.Calls.{Lent, lending, playOf, lentOf, fits, lentAfter, goesAfter, outcomeOf, PiecePlayed}
 use Rattle.listing.specs.Parts.{Able, Frames, playing, Ran}
 use Rattle.word.proofs.Laws.{both-true}
 
@@ -76,9 +79,10 @@ pub record Fit (n : ℕ) (l : Lent) : Type 0 where
   pub frames : Frames (l .attributes) (l .registers) (l .ports) (l .outputs) (l .line)
   pub able : Able (playerOf (l .numbers)) n
 
-pub fits-true : (n : ℕ) (l : Lent) → fits n l ≡ true → Fit n l
+pub fits-true : (n : ℕ) (l : Lent) (r : Bool) → r ≡ fits n l → not r ≡ false → Fit n l
 unfolding fitsBy
-fits-true n l h =
+fits-true n l r e t =
+    let h : fits n l ≡ true = sym e ∙ not-false r t in
     let a = eqb (length (l .numbers)) playerNumbers in
     let b = lengthsFit (length (l .attributes)) (length (l .registers)) (length (l .ports)) (length (l .outputs)) (length (l .line)) in
     let c = numbersFit n (playerOf (l .numbers)) in
@@ -92,16 +96,17 @@ fits-true n l h =
 -- ---- what the call leaves
 
 module _ (piece : List ℕ) (l : Lent) (out : List ℕ) where
-  pub not-played : fits (length piece) l ≡ false → PiecePlayed piece l out (record { used = 0; made = 0; goes = false }) l out
+  pub not-played : (r : Bool) → r ≡ fits (length piece) l → not r ≡ true → PiecePlayed piece l out (record { used = 0; made = 0; goes = false }) l out
   unfolding outcomeOf lentAfter goesAfter
-  not-played h = record { used = rw h; goes = rw h; says = rw h (put-none 0 out); lent = rw h; part = omega arith; room = omega arith }
+  not-played r e t = let h = sym e ∙ not-true r t in record { used = rw h; goes = rw h; says = rw h (put-none 0 out); lent = rw h; part = omega arith; room = omega arith }
 
-  pub piece-played : fits (length piece) l ≡ true → (q : Player) (r : Run) (ns at rs ps os line out′ : List ℕ) (goes : Bool) → q ≡ playerOf (l .numbers)
+  pub piece-played : (fit : Bool) → fit ≡ fits (length piece) l → not fit ≡ false → (q : Player) (r : Run) (ns at rs ps os line out′ : List ℕ) (goes : Bool) → q ≡ playerOf (l .numbers)
       → Ran (playing q (l .attributes) (l .registers) (l .ports) (l .outputs) (l .line)) piece out r (playing (r .player) at rs ps os line) out′
       → ns ≡ playerWords (r .player) → goes ≡ working (r .player .phase)
       → PiecePlayed piece l out (record { used = r .used; made = r .made; goes = goes }) (lending ns at rs ps os line) out′
   unfolding outcomeOf lentAfter goesAfter playOf lentOf
-  piece-played h q r ns at rs ps os line out′ goes e ran stored phase =
+  piece-played fit f t q r ns at rs ps os line out′ goes e ran stored phase =
+      let h = sym f ∙ not-false fit t in
       let left = playing (r .player) at rs ps os line in
       let go =
       subst (λ (x : Player). Ran (playing x (l .attributes) (l .registers) (l .ports) (l .outputs) (l .line)) piece out r left out′) e ran in

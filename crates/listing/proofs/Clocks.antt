@@ -11,15 +11,16 @@ use Rattle.column.specs.Column.{columnNext, columnShown}
 use Rattle.text.specs.Printed.{pasted}
 use Rattle.lent.specs.Refusing.{leaves}
 use Rattle.records.specs.Records.{attributeWords, registerWords, portWords, outputWords}
-use Rattle.listing.specs.declared.player.Player.{Player}
-use Rattle.listing.specs.Limits.{mostSlices}
+use Rattle.player.specs.declared.Player.{Player}
+use Rattle.player.specs.Limits.{mostSlices}
 use Rattle.listing.specs.Listing.{clockOf, clockedRegisters, clockedOutputs}
 
 -- the words of count slices among those of 24
 pub within : (n count : ℕ) (ws : List ℕ) → count ≤ mostSlices → length ws ≡ n * mostSlices → n * count ≤ length ws
 within n count ws h l = omega (arith, mul-le-mul-left n h)
 
-front-length : (n count : ℕ) (ws : List ℕ) → count ≤ mostSlices → length ws ≡ n * mostSlices → length (take (n * count) ws) ≡ n * count
+-- and how many they are
+pub front-length : (n count : ℕ) (ws : List ℕ) → count ≤ mostSlices → length ws ≡ n * mostSlices → length (take (n * count) ws) ≡ n * count
 front-length n count ws h l = length-take-le (n * count) ws (within n count ws h l)
 
 -- what a clock leaves in the front of the words, and so in all of them

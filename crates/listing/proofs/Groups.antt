@@ -7,23 +7,25 @@ use native.Mathlib.Nat.{mul-suc, mul-le-mul-left}
 use native.Mathlib.Omega.{arith}
 use lib.ListN.{length, take, drop, length-take, length-drop}
 use lib.Seq.{drop-drop}
-use borrow.Author.Tests.{lt-leb, le-leb}
+use borrow.Author.Tests.{lt-leb, le-leb, eq-eqb}
 use Rattle.records.specs.Records.{attributeWords, portWords}
 use Rattle.column.proofs.Stacks.{part-count}
+use Rattle.text.specs.Bytes.{newline}
 use Rattle.text.specs.Numbers.{Numbers, lineOf, isWell, wordsOf}
 use Rattle.text.specs.Printed.{pasted}
 use Rattle.text.specs.Calls.{Taken}
 use Rattle.text.proofs.Paste.{pasted-length}
 use Rattle.text.proofs.Lines.{words-length}
-use Rattle.listing.specs.declared.player.Phase.{Phase}
-use Rattle.listing.specs.declared.player.Phase.the-variants.{Settings, Clocks}
-use Rattle.listing.specs.declared.player.Player.{Player}
-use Rattle.listing.specs.declared.player.Step.{Step}
+use Rattle.player.specs.declared.Phase.{Phase}
+use Rattle.player.specs.declared.Phase.the-variants.{Settings, Clocks}
+use Rattle.player.specs.declared.Player.{Player}
+use Rattle.listing.specs.declared.steps.Step.{Step}
 use Rattle.listing.specs.Letters.{letterP}
-use Rattle.listing.specs.Limits.{mostSlices}
-use Rattle.listing.specs.Steps.{oneMore, goesOn, refusal, groupStep, settingsStep, clockStep}
-use Rattle.listing.specs.Listing.{Left, leaving, settingsLine, settingsOf, clockOf, lineLeaves, portsLeave}
-use Rattle.listing.specs.Parts.{SettingsRead, SettingsTaken, PortsTaken}
+use Rattle.player.specs.Limits.{mostSlices}
+use Rattle.listing.specs.Steps.{counted, oneMore, goesOn, refusal, groupStep, settingsStep, clockStep}
+use Rattle.player.specs.Numbers.{working}
+use Rattle.listing.specs.Listing.{Left, leaving, settingsLine, settingsOf, clockOf, lineLeaves, portsLeave, turnOf, byteTurn}
+use Rattle.listing.specs.Parts.{SettingsRead, SettingsTaken, PortsTaken, playing}
 use Rattle.listing.proofs.SettingsLine.{settings-length}
 
 -- ---- the step of a line
@@ -89,8 +91,14 @@ settings-in k ws h l line t = read-in attributeWords k ws h l (settingsLine line
 
 -- ---- what the lines leave, as one
 
-pub of-phase : (q : Player) (line at rs ps os : List ℕ) (f g : Phase) (l : Left) → f ≡ g → l ≡ lineLeaves g q line at rs ps os → l ≡ lineLeaves f q line at rs ps os
-of-phase q line at rs ps os f g l e h = h ∙ ap (λ (x : Phase). lineLeaves x q line at rs ps os) (sym e)
+-- a newline ends a line of the kind that is due
+pub line-turned : (q q′ : Player) (b : ℕ) (line at rs ps os : List ℕ) (f : Phase) (l : Left) → working (q .phase) ≡ true → b ≡ newline → q .phase ≡ f
+    → q′ ≡ counted q → l ≡ lineLeaves f q′ (take (q .held) line) at rs ps os → turnOf l line ≡ byteTurn (playing q at rs ps os line) b
+unfolding byteTurn
+line-turned q q′ b line at rs ps os f l works e due counts h =
+    rw (works, eq-eqb b newline e)
+    (ap (λ (x : Left). turnOf x line)
+    (h ∙ ap₂ (λ (x : Phase) (y : Player). lineLeaves x y (take (q .held) line) at rs ps os) (sym due) counts))
 
 module _ (q : Player) (line at rs ps os : List ℕ) (r : Step) where
   pub settings-left : (at′ : List ℕ) → SettingsTaken q line at r at′ → leaving r at′ rs ps os ≡ lineLeaves Settings q line at rs ps os

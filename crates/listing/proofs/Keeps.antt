@@ -13,14 +13,15 @@ use Rattle.text.specs.Bytes.{newline, mostBytes}
 use Rattle.text.specs.Numbers.{Numbers, isWell, wordsOf, lineOf}
 use Rattle.word.proofs.Laws.{both-true}
 use Rattle.records.specs.Records.{attributeWords, portWords}
-use Rattle.listing.specs.declared.player.Phase.{Phase}
-use Rattle.listing.specs.declared.player.Phase.the-variants.{Head, Settings, Clocks, Stopped}
-use Rattle.listing.specs.declared.player.Player.{Player}
-use Rattle.listing.specs.declared.player.Step.{Step}
+use Rattle.player.specs.declared.Phase.{Phase}
+use Rattle.player.specs.declared.Phase.the-variants.{Head, Settings, Clocks, Stopped}
+use Rattle.player.specs.declared.Player.{Player}
+use Rattle.listing.specs.declared.steps.Step.{Step}
 use Rattle.listing.specs.Letters.{letterN, letterP}
-use Rattle.listing.specs.Limits.{mostSlices, countBound}
+use Rattle.player.specs.Limits.{mostSlices, countBound}
 use Rattle.listing.specs.Steps.{counted, oneMore, named, goesOn, refusal, lastOfGroup, answered, headStep, groupStep, settingsStep, clockStep}
-use Rattle.listing.specs.Listing.{settingsLine, Play, Turn, working, lineTurn, partTurn, lineLeaves, byteTurn, settingsOf, clockOf, placed}
+use Rattle.player.specs.Numbers.{working}
+use Rattle.listing.specs.Listing.{settingsLine, Play, Turn, lineTurn, partTurn, lineLeaves, byteTurn, settingsOf, clockOf, placed}
 use Rattle.listing.specs.Parts.{Fair, Able}
 
 -- what holds of both ways of a test holds of the step

@@ -19,20 +19,23 @@ use Rattle.text.specs.Numbers.{Numbers, lineOf, isWell, wordsOf}
 use Rattle.text.specs.Printed.{pasted}
 use Rattle.text.proofs.Paste.{pasted-length}
 use Rattle.text.proofs.Lines.{words-length}
-use Rattle.listing.specs.declared.player.Phase.{Phase}
-use Rattle.listing.specs.declared.player.Phase.the-variants.{Head, Settings, Clocks, Stopped}
-use Rattle.listing.specs.declared.player.Player.{Player}
+use Rattle.player.specs.declared.Phase.{Phase}
+use Rattle.player.specs.declared.Phase.the-variants.{Head, Settings, Clocks, Stopped}
+use Rattle.player.specs.declared.Player.{Player}
 use Rattle.listing.specs.Letters.{letterP}
-use Rattle.listing.specs.Limits.{mostSlices, countBound, clockRoom}
+use Rattle.player.specs.Limits.{mostSlices, countBound}
+use Rattle.listing.specs.Limits.{clockRoom}
 use Rattle.listing.specs.Steps.{counted, lastOfGroup}
-use Rattle.listing.specs.Listing.{settingsLine, Play, Turn, Left, placed, clockOf, clockedRegisters, clockedOutputs, lineLeaves, lineTurn, partTurn, working, byteTurn, start}
-use Rattle.listing.specs.Calls.{playOf, lentOf, fitsBy, fits, nothing, further, played}
+use Rattle.player.specs.Numbers.{working}
+use Rattle.listing.specs.Listing.{settingsLine, Play, Turn, Left, placed, clockOf, clockedRegisters, clockedOutputs, lineLeaves, lineTurn, partTurn, byteTurn, start}
+use Rattle.player.specs.Fitting.{fits as fitsBy}
+use Rattle.listing.specs.Calls.{playOf, lentOf, fits, nothing, further, played}
 use Rattle.listing.specs.Parts.{Fair, Able, Words, Frames}
 use Rattle.listing.proofs.SettingsLine.{settings-length}
 use Rattle.listing.proofs.Groups.{stretch-room}
 use Rattle.listing.proofs.Keeps.{byte-goes}
 use Rattle.listing.proofs.Clocks.{within}
-use Rattle.listing.proofs.Stored.{player-back}
+use Rattle.player.proofs.Stored.{player-back}
 
 -- a play whose counts have room for n bytes more
 pub record Good (p : Play) (n : ℕ) : Type 0 where
@@ -133,7 +136,7 @@ byte-keeps p b n g =
     (record { words = g .frames .words; line = rw length-set (g .frames .line) })))
     (g .frames)
 
-byte-lasts : (p : Play) (b n : ℕ) → Good p (suc n) → Good (byteTurn p b .play) n
+pub byte-lasts : (p : Play) (b n : ℕ) → Good p (suc n) → Good (byteTurn p b .play) n
 byte-lasts p b n g = record { able = byte-goes p b n (g .able); frames = byte-keeps p b n g }
 
 pub piece-lasts : (room : ℕ) (p : Play) (piece : List ℕ) (n : ℕ) → length piece ≤ n → Good p n → Good (played room p piece .play) (n - played room p piece .used)

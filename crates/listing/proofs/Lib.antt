@@ -3,12 +3,13 @@ pub mod SettingsLine
 pub mod Groups
 pub mod Keeps
 pub mod Clocks
+pub mod Gathering
 pub mod Pieces
 pub mod Running
-pub mod Stored
 pub mod Calling
 pub mod Ending
 pub mod Lasting
 pub mod Whole
+pub mod Reading
 pub mod Unique
 pub mod Values

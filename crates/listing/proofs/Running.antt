@@ -1,30 +1,24 @@
 -- A turn of the loop that plays a piece. Assumes nothing.
 use mathlib.Core.Path.{_≡_, refl, sym, ap, _∙_, subst}
-use mathlib.Core.Bool.{Bool, true, false, _&&_}
+use mathlib.Core.Bool.{Bool, true, false, cond}
 use mathlib.Core.List.{List}
 use Prim.Native.Nat.{ℕ, _+_, _-_, _<_, _≤_}
 use native.Mathlib.Omega.{arith}
-use lib.Dec.{leb, ltb}
-use lib.ListN.{length, take, getD}
-use borrow.Author.Tests.{ltb-false, leb-false, ltb-true, leb-true}
-use Rattle.word.proofs.Laws.{both-true}
+use lib.ListN.{length, take, drop, getD}
 use Rattle.text.specs.Printed.{Put}
-use Rattle.listing.specs.declared.player.Player.{Player}
-use Rattle.listing.specs.declared.player.Step.{Step}
-use Rattle.listing.specs.Limits.{mostSlices, clockRoom}
-use Rattle.listing.specs.Steps.{bytesOf}
+use Rattle.event.specs.Events.{bytesOf}
+use Rattle.player.specs.declared.Player.{Player}
+use Rattle.listing.specs.declared.steps.Step.{Step}
+use Rattle.listing.specs.declared.machine.Reach.{Reach}
+use Rattle.player.specs.Limits.{mostSlices}
+use Rattle.listing.specs.Limits.{clockRoom}
+use Rattle.player.specs.Numbers.{working}
 use Rattle.listing.specs.Listing.{Play, Turn, leaving, turnOf, byteTurn}
 use Rattle.listing.specs.Calls.{Outcome, played}
-use Rattle.listing.specs.Parts.{Able, Frames, playing, Ran}
+use Rattle.listing.specs.Parts.{Able, Frames, playing, gathering, joining, stretchOf, Reaches, Ran}
 use Rattle.listing.proofs.Printing.{event-length}
 use Rattle.listing.proofs.Keeps.{byte-goes}
-use Rattle.listing.proofs.Pieces.{SoFar, one-byte, all-taken, no-room, printed-so-far}
-
--- what the loop's test says
-pub loop-goes : (used n room : ℕ) → ltb used n && leb clockRoom room ≡ true → (used < n) × (clockRoom ≤ room)
-loop-goes used n room h =
-    let b = both-true (ltb used n) (leb clockRoom room) h in
-    (ltb-true used n (b .0), leb-true clockRoom room (b .1))
+use Rattle.listing.proofs.Pieces.{SoFar, one-byte, one-stretch, all-taken, no-room, printed-so-far}
 
 pub frames-kept : (at rs ps os line at′ rs′ ps′ os′ line′ : List ℕ) → Frames at rs ps os line → length at′ ≡ length at → length rs′ ≡ length rs
     → length ps′ ≡ length ps → length os′ ≡ length os → length line′ ≡ length line → Frames at′ rs′ ps′ os′ line′
@@ -67,16 +61,9 @@ module _ (p₀ : Play) (piece out₀ : List ℕ) (q : Player) (at rs ps os line 
       kept)
 
   -- where the loop ends, no byte is left or no room
-  ended : (a b : Bool) → ltb used (length piece) ≡ a → leb clockRoom (length out - made) ≡ b → a && b ≡ false
-      → played (length out₀) p₀ piece ≡ record { used = used; play = playing q at rs ps os line; says = take made out }
-  ended false b e f h = all-taken p₀ piece out₀ (playing q at rs ps os line) used made out s (ltb-false used (length piece) e)
-  ended true false e f h = no-room p₀ piece out₀ (playing q at rs ps os line) used made out s (leb-false clockRoom (length out - made) f)
-  ended true true e f h = let z : _≡_ {A = Bool} true false = h in cc
-
-  pub all-ran : ltb used (length piece) && leb clockRoom (length out - made) ≡ false
+  ran : played (length out₀) p₀ piece ≡ record { used = used; play = playing q at rs ps os line; says = take made out }
       → Ran p₀ piece out₀ (record { player = q; used = used; made = made }) (playing q at rs ps os line) out
-  all-ran h =
-      let e = ended (ltb used (length piece)) (leb clockRoom (length out - made)) refl refl h in
+  ran e =
       record {
         part = s .within;
         room = omega (arith, s .room, s .long);
@@ -86,3 +73,39 @@ module _ (p₀ : Play) (piece out₀ : List ℕ) (q : Player) (at rs ps os line 
             subst (λ (bs : List ℕ). Put 0 bs out₀ made out) (sym (ap (λ (o : Outcome). o .says) e))
             (printed-so-far p₀ piece out₀ (playing q at rs ps os line) used made out s);
       }
+
+  pub all-ran : length piece ≤ used → Ran p₀ piece out₀ (record { player = q; used = used; made = made }) (playing q at rs ps os line) out
+  all-ran h = ran (all-taken p₀ piece out₀ (playing q at rs ps os line) used made out s h)
+
+  pub room-ran : length out - made < clockRoom → Ran p₀ piece out₀ (record { player = q; used = used; made = made }) (playing q at rs ps os line) out
+  room-ran h = ran (no-room p₀ piece out₀ (playing q at rs ps os line) used made out s h)
+
+  -- a stretch of bytes more
+  pub reach-so-far : clockRoom ≤ length out - made → (r : Reach) (line′ : List ℕ) → Reaches q piece used line r line′
+      → SoFar p₀ piece out₀ (playing (r .player) at rs ps os line′) (r .used) made out
+  reach-so-far room r line′ d =
+      let x = stretchOf q line (drop used piece) in
+      let more : SoFar p₀ piece out₀ (playing (x .player) at rs ps os (x .line)) (used + x .count) made out =
+      one-stretch p₀ piece out₀ (playing q at rs ps os line) used made out s room (omega (arith, d .used, d .within)) in
+      rw (d .player, d .used, d .bytes) more
+
+-- the player that a stretch leaves can take the bytes that are left
+pub reach-able : (q : Player) (piece : List ℕ) (used : ℕ) (line : List ℕ) (r : Reach) (line′ : List ℕ) → Reaches q piece used line r line′
+    → Able q (length piece - used) → Able (r .player) (length piece - r .used)
+reach-able q piece used line r line′ d a =
+    let more = go (working (q .phase)) in
+    record {
+      fair = record {
+        count = rw (d .player, more .0) (a .fair .count);
+        given = rw (d .player, more .1) (a .fair .given);
+        held = d .held;
+      };
+      clocks = rw (d .player, more .2) (omega (arith, a .clocks, d .used));
+      lines = rw (d .player, more .3) (omega (arith, a .lines, d .used));
+    }
+  where
+    go : (t : Bool)
+        → (let x = cond t (joining q (gathering (q .held) line (drop used piece))) (record { player = q; count = length (drop used piece); line = line }) .player in
+        (x .count ≡ q .count) × (x .given ≡ q .given) × (x .clocks ≡ q .clocks) × (x .lines ≡ q .lines))
+    go true = (refl, refl, refl, refl)
+    go false = (refl, refl, refl, refl)

@@ -1,12 +1,15 @@
 -- Facts by value that pin the listing's definitions: each stands beside a slip that would break it. Assumes nothing.
 use mathlib.Core.Path.{_≡_, refl}
-use mathlib.Core.Bool.{true, false}
+use mathlib.Core.Bool.{false}
 use mathlib.Core.List.{List, [], _∷_, _++_}
 use Prim.Native.Nat.{ℕ, _-_, _^_}
 use lib.ListN.{replicate}
 use Rattle.records.specs.Records.{exceeds}
 use Rattle.text.specs.Printed.{printed, decimalOf}
 use Rattle.text.specs.Numbers.{lineOf}
+use Rattle.event.specs.declared.Event.the-variants.{Clocked}
+use Rattle.event.specs.Letters.{letterO, letterR, letterE}
+use Rattle.event.specs.Events.{outputLine, bytesWithin}
 use Rattle.column.specs.declared.Answer.the-variants.{Accepted}
 use Rattle.column.specs.Column.{columnNext, columnShown, shownAt, nextAt, cascadeInto}
 use Rattle.column.specs.Refusals.{attributesAnswer, clockAnswer, rules, settings, lengthsFit as lengthsOfClock, fails, broken}
@@ -14,13 +17,13 @@ use Rattle.legal.specs.Legal.{offList, badInmode, badOpmode, badAlumode, badCar
 use Rattle.slice.specs.Slice.{controlsOf, selectsOf, sliceNext, nextOf, edge, sliceOutputs, sliceCascade, outputsOfSettled, cascadeOf, sliceSettled, settledOf, settledCarry, resultOf, sliceOperands, operandsOf, productOf, leftOf, rightOf, preAddedOf, aSide, dSide, pathsOf}
 use Rattle.unit.specs.Unit.{unitResult, splitResult, carryOut, arithmetic, lanes, logicRows, wrappedSum, preAdder, product, load}
 use Rattle.unit.specs.Detector.{detected, unmasked}
-use Rattle.listing.specs.declared.player.Phase.the-variants.{Head, Clocks, Stopped}
-use Rattle.listing.specs.declared.player.Player.{Player}
-use Rattle.listing.specs.declared.player.Event.the-variants.{Clocked}
-use Rattle.listing.specs.Letters.{letterN, letterA, letterP, letterO, letterR, letterE}
-use Rattle.listing.specs.Steps.{headStep, groupStep, answered, clockStep, endOf, outputLine, bytesOf}
+use Rattle.player.specs.declared.Phase.the-variants.{Head, Clocks}
+use Rattle.player.specs.declared.Player.{Player}
+use Rattle.listing.specs.Letters.{letterN, letterA, letterP}
+use Rattle.listing.specs.Steps.{headStep, groupStep, answered, clockStep, endOf}
 use Rattle.listing.specs.Listing.{settingsLine, clockedRegisters, clockedOutputs, Play, start, byteTurn, endSays, listing}
-use Rattle.listing.specs.Calls.{phaseOf, playerWords, playerOf, lending, playOf, lengthsFit, numbersFit, fitsBy, played, lentAfter, goesAfter, outcomeOf, endBytes}
+use Rattle.player.specs.Fitting.{fits as fitsBy}
+use Rattle.listing.specs.Calls.{lending, playOf, played, lentAfter, goesAfter, outcomeOf, endBytes}
 
 -- ---- lines, printed as the output is: a letter, each number after a tab, and a newline
 
@@ -123,12 +126,6 @@ pub one-clock : OneClock
 unfolding listing byteTurn headStep groupStep answered settingsLine lineOf endSays endOf printed decimalOf clockedRegisters clockedOutputs outputLine attributesAnswer clockAnswer rules settings lengthsOfClock fails broken breaks exceeds columnNext columnShown shownAt nextAt cascadeInto offList badInmode badOpmode badAlumode badCarryinsel controlsOf selectsOf sliceNext nextOf edge load sliceOutputs sliceCascade outputsOfSettled cascadeOf sliceSettled settledOf settledCarry carryOut resultOf sliceOperands operandsOf productOf leftOf rightOf preAddedOf aSide dSide pathsOf splitResult unitResult lanes arithmetic logicRows wrappedSum preAdder product detected unmasked
 one-clock = record { worked = refl; split = refl; refused-later = refl; port-over = refl }
 
--- within a clock from slice 0 up
-slices-up : bytesOf (Clocked 3) 2 (10 ∷ 11 ∷ 12 ∷ 13 ∷ 14 ∷ 15 ∷ 16 ∷ 20 ∷ 21 ∷ 22 ∷ 23 ∷ 24 ∷ 25 ∷ 26 ∷ [])
-    ≡ printed letterO (3 ∷ 0 ∷ 10 ∷ 11 ∷ 12 ∷ 13 ∷ 14 ∷ 15 ∷ 16 ∷ []) ++ printed letterO (3 ∷ 1 ∷ 20 ∷ 21 ∷ 22 ∷ 23 ∷ 24 ∷ 25 ∷ 26 ∷ [])
-unfolding outputLine printed decimalOf
-slices-up = refl
-
 -- a player whose `P` lines are due
 abbrev player : (count given clocks lines held : ℕ) → Player
 player count given clocks lines held =
@@ -166,45 +163,17 @@ pub pieces : Pieces
 unfolding byteTurn headStep lineOf printed decimalOf fitsBy outcomeOf goesAfter lentAfter playOf
 pieces = record { byte-512 = refl; byte-513 = refl; room = (refl, refl); room-left = (refl, refl); unlent = (refl, refl, refl) }
 
-pub record Numbers : Type 0 where
-  -- zeros are the start
-  pub zeros : playerOf (replicate 6 0) ≡ start .player
-  pub in-order : playerWords (player 24 5 7 9 11) ≡ 2 ∷ 24 ∷ 5 ∷ 7 ∷ 9 ∷ 11 ∷ []
-  pub back : playerOf (2 ∷ 24 ∷ 5 ∷ 7 ∷ 9 ∷ 11 ∷ []) ≡ player 24 5 7 9 11
-  pub stopped : (phaseOf 3 ≡ Stopped) × (phaseOf 4 ≡ Stopped)
-  -- counts stay below 2^64 - 1
-  pub fit : numbersFit 1 (player 24 23 (2 ^ 64 - 3) (2 ^ 64 - 3) 512) ≡ true
-  pub clocks-over : numbersFit 1 (player 24 23 (2 ^ 64 - 2) 0 512) ≡ false
-  pub lines-over : numbersFit 1 (player 24 23 0 (2 ^ 64 - 2) 512) ≡ false
-  pub count-over : numbersFit 1 (player 25 23 0 0 512) ≡ false
-  pub given-over : numbersFit 1 (player 24 24 0 0 512) ≡ false
-  pub held-over : numbersFit 1 (player 24 23 0 0 513) ≡ false
-  pub lengths : lengthsFit 528 456 264 168 512 ≡ true
-
-pub numbers : Numbers
-numbers =
-    record {
-      zeros = refl;
-      in-order = refl;
-      back = refl;
-      stopped = (refl, refl);
-      fit = refl;
-      clocks-over = refl;
-      lines-over = refl;
-      count-over = refl;
-      given-over = refl;
-      held-over = refl;
-      lengths = refl;
-    }
-
 pub record Ends : Type 0 where
-  pub missing : endBytes (replicate 6 0) (replicate 8192 0) ≡ refused 12 0 1
-  pub no-room : endBytes (replicate 6 0) (replicate 8191 0) ≡ []
-  pub no-player : endBytes (replicate 5 0) (replicate 8192 0) ≡ []
-  pub no-line : endBytes (0 ∷ 0 ∷ 0 ∷ 0 ∷ (2 ^ 64 - 1) ∷ 0 ∷ []) (replicate 8192 0) ≡ []
+  pub missing : endBytes (replicate 6 0) (replicate 84 0) ≡ refused 12 0 1
+  -- a line takes 84 bytes of room, and `E` 42
+  pub no-room : endBytes (replicate 6 0) (replicate 83 0) ≡ []
+  pub end : endBytes (2 ∷ 1 ∷ 0 ∷ 57 ∷ 59 ∷ 0 ∷ []) (replicate 42 0) ≡ printed letterE (57 ∷ [])
+  pub no-room-for-end : endBytes (2 ∷ 1 ∷ 0 ∷ 57 ∷ 59 ∷ 0 ∷ []) (replicate 41 0) ≡ []
+  pub no-player : endBytes (replicate 5 0) (replicate 84 0) ≡ []
+  pub no-line : endBytes (0 ∷ 0 ∷ 0 ∷ 0 ∷ (2 ^ 64 - 1) ∷ 0 ∷ []) (replicate 84 0) ≡ []
   -- after a refusal the end prints nothing
-  pub after-a-refusal : endBytes (3 ∷ 1 ∷ 0 ∷ 0 ∷ 2 ∷ 0 ∷ []) (replicate 8192 0) ≡ []
+  pub after-a-refusal : endBytes (3 ∷ 1 ∷ 0 ∷ 0 ∷ 2 ∷ 0 ∷ []) (replicate 84 0) ≡ []
 
 pub ends : Ends
-unfolding endBytes endSays endOf printed decimalOf
-ends = record { missing = refl; no-room = refl; no-player = refl; no-line = refl; after-a-refusal = refl }
+unfolding endBytes bytesWithin endOf printed decimalOf
+ends = record { missing = refl; no-room = refl; end = refl; no-room-for-end = refl; no-player = refl; no-line = refl; after-a-refusal = refl }

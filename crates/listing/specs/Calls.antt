@@ -1,46 +1,19 @@
 -- The public calls as their callers see them: one answer, and one content of every lent word and byte, for all inputs. Assumes nothing.
-use Prim.Native.Nat.{ℕ, suc, _*_, _-_, _≤_}
+use Prim.Native.Nat.{ℕ, suc, _-_, _≤_}
 use mathlib.Core.Path.{_≡_, _∙_, sym}
 use mathlib.Core.Bool.{Bool, cond, _&&_}
 use mathlib.Core.List.{List, [], _∷_, _++_}
 use lib.Dec.{eqb, leb, ltb}
-use lib.ListN.{length, getD}
-use Rattle.records.specs.Records.{attributeWords, registerWords, portWords, outputWords}
-use Rattle.text.specs.Bytes.{mostBytes}
+use lib.ListN.{length}
 use Rattle.text.specs.Printed.{Put}
-use Rattle.listing.specs.declared.player.Phase.{Phase}
-use Rattle.listing.specs.declared.player.Phase.the-variants.{Head, Settings, Clocks, Stopped}
-use Rattle.listing.specs.declared.player.Player.{Player}
+use Rattle.event.specs.Events.{bytesWithin}
+use Rattle.player.specs.Limits.{countBound}
+use Rattle.player.specs.Numbers.{working, playerNumbers, playerWords, playerOf}
+use Rattle.player.specs.Fitting.{fits as fitsBy}
 use Rattle.listing.specs.declared.Played.{Played}
-use Rattle.listing.specs.Limits.{mostSlices, countBound, clockRoom}
-use Rattle.listing.specs.Listing.{Play, Turn, byteTurn, working, endSays}
-
--- ---- the player's numbers as lent words
-
-abbrev pub phaseNumber : Phase → ℕ
-phaseNumber Head = 0
-phaseNumber Settings = 1
-phaseNumber Clocks = 2
-phaseNumber Stopped = 3
-
-abbrev pub phaseOf : ℕ → Phase
-phaseOf n = cond (eqb n 0) Head (cond (eqb n 1) Settings (cond (eqb n 2) Clocks Stopped))
-
-abbrev pub playerWords : Player → List ℕ
-playerWords q = phaseNumber (q .phase) ∷ q .count ∷ q .given ∷ q .clocks ∷ q .lines ∷ q .held ∷ []
-
-abbrev pub playerNumbers : ℕ
-playerNumbers = 6
-
-abbrev pub playerOf : (numbers : List ℕ) → Player
-playerOf ns = record {
-  phase = phaseOf (getD ns 0 0);
-  count = getD ns 1 0;
-  given = getD ns 2 0;
-  clocks = getD ns 3 0;
-  lines = getD ns 4 0;
-  held = getD ns 5 0;
-}
+use Rattle.listing.specs.Limits.{clockRoom}
+use Rattle.listing.specs.Steps.{endOf}
+use Rattle.listing.specs.Listing.{Play, Turn, byteTurn}
 
 -- the lent words and bytes of a player
 pub record Lent : Type 0 where
@@ -76,28 +49,7 @@ lentOf p = record {
 
 -- ---- `play`
 
--- the lent words are a player's, and its counts have room for n lines and n clocks more
-abbrev pub numbersFit : (n : ℕ) → Player → Bool
-numbersFit n q =
-    leb (q .count) mostSlices
-    && ltb (q .given) mostSlices
-    && leb (q .held) mostBytes
-    && ltb n (countBound - q .clocks)
-    && ltb n (countBound - q .lines)
-
--- the words of 24 slices, and the bytes of a line
-abbrev pub lengthsFit : (attributes registers ports outputs line : ℕ) → Bool
-lengthsFit attributes registers ports outputs line =
-    eqb attributes (attributeWords * mostSlices)
-    && eqb registers (registerWords * mostSlices)
-    && eqb ports (portWords * mostSlices)
-    && eqb outputs (outputWords * mostSlices)
-    && eqb line mostBytes
-
-unfoldable pub fitsBy : (n : ℕ) → (numbers : List ℕ) → (attributes registers ports outputs line : ℕ) → Bool
-fitsBy n ns attributes registers ports outputs line =
-    eqb (length ns) playerNumbers && lengthsFit attributes registers ports outputs line && numbersFit n (playerOf ns)
-
+-- what is lent is a player's, and its counts have room for n lines and n clocks more
 abbrev pub fits : (n : ℕ) → Lent → Bool
 fits n l =
     fitsBy n (l .numbers) (length (l .attributes)) (length (l .registers)) (length (l .ports)) (length (l .outputs)) (length (l .line))
@@ -147,7 +99,7 @@ pub record PiecePlayed (piece : List ℕ) (l : Lent) (out : List ℕ) (r : Playe
 -- the bytes at the end of the input, where the lent numbers are a player's and there is room for them
 unfoldable pub endBytes : (numbers out : List ℕ) → List ℕ
 endBytes ns out =
-    cond (eqb (length ns) playerNumbers && leb clockRoom (length out) && ltb 0 (countBound - playerOf ns .lines)) (endSays (playerOf ns)) []
+    cond (eqb (length ns) playerNumbers && ltb 0 (countBound - playerOf ns .lines)) (bytesWithin (endOf (playerOf ns)) 0 [] 0 out) []
 
 pub record Finished (numbers out : List ℕ) (r : ℕ) (out′ : List ℕ) : Type 0 where
   pub says : Put 0 (endBytes numbers out) out r out′

@@ -1,6 +1,6 @@
 -- A whole listing (01, "Port listings"): from all the bytes of the input to all the bytes of the output. Assumes nothing.
 use Prim.Native.Nat.{ℕ, _+_, _*_, _-_}
-use mathlib.Core.Bool.{Bool, true, false, cond, _&&_}
+use mathlib.Core.Bool.{cond, _&&_}
 use mathlib.Core.List.{List, [], _∷_, _++_}
 use lib.Dec.{eqb}
 use lib.ListN.{take, set, replicate}
@@ -12,13 +12,15 @@ use Rattle.column.specs.Refusals.{numberOf, attributesAnswer, clockAnswer}
 use Rattle.text.specs.Bytes.{newline, mostBytes}
 use Rattle.text.specs.Numbers.{Numbers, values, malformed, lineOf, isWell, wordsOf}
 use Rattle.text.specs.Printed.{pasted}
-use Rattle.listing.specs.declared.player.Phase.{Phase}
-use Rattle.listing.specs.declared.player.Phase.the-variants.{Head, Settings, Clocks, Stopped}
-use Rattle.listing.specs.declared.player.Player.{Player}
-use Rattle.listing.specs.declared.player.Step.{Step}
+use Rattle.event.specs.Events.{bytesOf}
+use Rattle.player.specs.declared.Phase.{Phase}
+use Rattle.player.specs.declared.Phase.the-variants.{Head, Settings, Clocks, Stopped}
+use Rattle.player.specs.declared.Player.{Player}
+use Rattle.player.specs.Numbers.{working}
+use Rattle.listing.specs.declared.steps.Step.{Step}
 use Rattle.listing.specs.Letters.{letterN, letterA, letterP}
-use Rattle.listing.specs.Limits.{mostSlices}
-use Rattle.listing.specs.Steps.{counted, longer, lastOfGroup, goesOn, refusal, headStep, groupStep, settingsStep, clockStep, endOf, bytesOf}
+use Rattle.player.specs.Limits.{mostSlices}
+use Rattle.listing.specs.Steps.{counted, longer, lastOfGroup, goesOn, refusal, headStep, groupStep, settingsStep, clockStep, endOf}
 
 -- what is known between two bytes of the input: the player's numbers, the words of a column, those of slice 0 first, the outputs last
 -- shown, and the bytes of the line so far, of which there are player .held
@@ -144,12 +146,6 @@ turnOf l line = record {
   says = bytesOf (l .step .event) (l .step .player .count) (l .outputs);
 }
 
-abbrev pub working : Phase → Bool
-working Head = true
-working Settings = true
-working Clocks = true
-working Stopped = false
-
 -- a step that leaves the words as they are
 abbrev pub stepping : Step → Play → Left
 stepping s p = leaving s (p .attributes) (p .registers) (p .ports) (p .outputs)
@@ -159,7 +155,7 @@ abbrev pub partTurn : Play → (b : ℕ) → Turn
 partTurn p b =
     cond (eqb (p .player .held) mostBytes)
     (turnOf (stepping (refusal (p .player) 12 (p .player .lines + 1)) p) (p .line))
-    (turnOf (stepping (goesOn (longer (p .player))) p) (set (p .line) (p .player .held) b))
+    (turnOf (stepping (goesOn (longer 1 (p .player))) p) (set (p .line) (p .player .held) b))
 
 -- a newline ends its line
 abbrev pub lineTurn : Play → Turn

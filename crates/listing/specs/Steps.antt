@@ -2,22 +2,17 @@
 -- has counted the line already, so its line is q .lines. Assumes nothing.
 use Prim.Native.Nat.{ℕ, _+_}
 use mathlib.Core.Bool.{Bool, cond, _&&_}
-use mathlib.Core.List.{List, [], _∷_}
 use lib.Dec.{eqb, leb}
 use lib.ListN.{getD}
-use Rattle.records.specs.Records.{outputWords}
 use Rattle.column.specs.declared.Answer.{Answer}
-use Rattle.column.specs.Column.{stretch, stacked}
 use Rattle.column.specs.Refusals.{numberOf, placeOf, countFits}
 use Rattle.text.specs.Numbers.{Numbers, isWell, wordsOf}
-use Rattle.text.specs.Printed.{printed}
-use Rattle.listing.specs.declared.player.Phase.{Phase}
-use Rattle.listing.specs.declared.player.Phase.the-variants.{Head, Settings, Clocks, Stopped}
-use Rattle.listing.specs.declared.player.Player.{Player}
-use Rattle.listing.specs.declared.player.Event.{Event}
-use Rattle.listing.specs.declared.player.Event.the-variants.{Nothing, Clocked, Refused, Ended}
-use Rattle.listing.specs.declared.player.Step.{Step}
-use Rattle.listing.specs.Letters.{letterO, letterR, letterE}
+use Rattle.event.specs.declared.Event.{Event}
+use Rattle.event.specs.declared.Event.the-variants.{Nothing, Clocked, Refused, Ended}
+use Rattle.player.specs.declared.Phase.{Phase}
+use Rattle.player.specs.declared.Phase.the-variants.{Head, Settings, Clocks, Stopped}
+use Rattle.player.specs.declared.Player.{Player}
+use Rattle.listing.specs.declared.steps.Step.{Step}
 
 -- ---- the player's numbers
 
@@ -25,9 +20,9 @@ use Rattle.listing.specs.Letters.{letterO, letterR, letterE}
 abbrev pub counted : Player → Player
 counted q = record { phase = q .phase; count = q .count; given = q .given; clocks = q .clocks; lines = q .lines + 1; held = 0 }
 
--- one byte more of the line
-abbrev pub longer : Player → Player
-longer q = record { phase = q .phase; count = q .count; given = q .given; clocks = q .clocks; lines = q .lines; held = q .held + 1 }
+-- so many bytes more of the line
+abbrev pub longer : (more : ℕ) → Player → Player
+longer more q = record { phase = q .phase; count = q .count; given = q .given; clocks = q .clocks; lines = q .lines; held = q .held + more }
 
 -- the line of one slice more is given
 abbrev pub oneMore : Player → Player
@@ -99,16 +94,3 @@ endIn Stopped q = Nothing
 
 unfoldable pub endOf : Player → Event
 endOf q = endIn (q .phase) q
-
--- ---- what is printed: "`O`, clock, slice, the five outputs", "within a clock from slice 0 up"; "outputs grow to 6 words a slice" and
--- "`O` lines grow alike" (02, Ask 4)
-
-unfoldable pub outputLine : (clock : ℕ) → (outputs : List ℕ) → (k : ℕ) → List ℕ
-outputLine clock os k = printed letterO (clock ∷ k ∷ stretch outputWords k os)
-
--- of an event of a column of count slices, which shows these outputs
-abbrev pub bytesOf : Event → (count : ℕ) → (outputs : List ℕ) → List ℕ
-bytesOf Nothing count os = []
-bytesOf (Clocked clock) count os = stacked (outputLine clock os) count
-bytesOf (Refused number clocks place) count os = printed letterR (number ∷ clocks ∷ place ∷ [])
-bytesOf (Ended clocks) count os = printed letterE (clocks ∷ [])

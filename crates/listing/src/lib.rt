@@ -5,14 +5,7 @@ ghost use Rattle.listing.specs.Calls.{lending, PiecePlayed, Finished};
 mod letters;
 mod lines;
 mod machine;
-mod player;
-mod print;
-mod state;
-
-use column::Attributes;
-use column::Outputs;
-use column::Ports;
-use column::Registers;
+mod steps;
 
 // What a piece led to: the bytes of it that were taken, the bytes that were printed, and whether there is more to play.
 pub struct Played {
@@ -21,21 +14,18 @@ pub struct Played {
     pub goes: bool,
 }
 
-// Slices in a column, at most.
-const MOST_SLICES: usize = 24;
-
 // How many words and bytes a player is lent: its numbers, the words of 24 slices, and the bytes of a line.
-pub const NUMBERS: usize = 6;
+pub const NUMBERS: usize = player::NUMBERS;
 
-pub const ATTRIBUTES: usize = Attributes::WORDS * MOST_SLICES;
+pub const ATTRIBUTES: usize = player::ATTRIBUTES;
 
-pub const REGISTERS: usize = Registers::WORDS * MOST_SLICES;
+pub const REGISTERS: usize = player::REGISTERS;
 
-pub const PORTS: usize = Ports::WORDS * MOST_SLICES;
+pub const PORTS: usize = player::PORTS;
 
-pub const OUTPUTS: usize = Outputs::WORDS * MOST_SLICES;
+pub const OUTPUTS: usize = player::OUTPUTS;
 
-pub const LINE: usize = 512;
+pub const LINE: usize = player::LINE;
 
 // Room in `out` for what any byte prints: more than the `O` lines of 24 slices, also where a slice had as many as 13 outputs.
 const CLOCK_ROOM: usize = 8192;
@@ -55,7 +45,7 @@ pub fn play(
     ensures { λ r.
         ⌜ PiecePlayed (now (piece .entry)) (lending (now (numbers .entry)) (now (attributes .entry)) (now (registers .entry)) (now (ports .entry)) (now (outputs .entry)) (now (line .entry))) (now (out .entry)) r (lending (now (numbers .exit)) (now (attributes .exit)) (now (registers .exit)) (now (ports .exit)) (now (outputs .exit)) (now (line .exit))) (now (out .exit)) ⌝ }
 {
-    if !state::fits(
+    if !player::fits(
         piece.len(),
         &numbers[..],
         attributes.len(),
@@ -70,7 +60,7 @@ pub fn play(
             goes: false,
         };
     }
-    let begin = state::player_of(&numbers[..]);
+    let begin = player::read(&numbers[..]);
     let run = machine::run_piece(
         begin,
         piece,
@@ -81,9 +71,9 @@ pub fn play(
         line,
         out,
     );
-    let player = run.player;
-    state::store(player, numbers);
-    let phase = player.phase;
+    let after = run.player;
+    player::store(after, numbers);
+    let phase = after.phase;
     Played {
         used: run.used,
         made: run.made,
@@ -98,13 +88,10 @@ pub fn finish(numbers: &[u64], out: &mut [u8]) -> usize
     if numbers.len() != NUMBERS {
         return 0;
     }
-    if out.len() < CLOCK_ROOM {
-        return 0;
-    }
-    let player = state::player_of(numbers);
-    if player.lines == u64::MAX {
+    let last = player::read(numbers);
+    if last.lines == u64::MAX {
         return 0;
     }
     let no_outputs = [0u64; 0];
-    print::put_event(player::end_of(player), 0, &no_outputs, out, 0)
+    event::put(steps::end_of(last), 0, &no_outputs, out, 0)
 }

@@ -1,23 +1,24 @@
-// The lines of a listing, each when it is whole. The player has counted the line already.
+// The lines of a listing, each when it is whole. A function of one kind of line is given a player that has counted it.
 ghost use mathlib.Core.Path.{_≡_};
 ghost use Prim.Native.Nat.{_*_};
 ghost use lib.ListN.{length};
 ghost use Rattle.records.specs.Records.{attributeWords};
 ghost use Rattle.text.specs.Numbers.{lineOf};
 ghost use Rattle.listing.specs.Letters.{letterN};
-ghost use Rattle.listing.specs.Limits.{mostSlices};
+ghost use Rattle.player.specs.Limits.{mostSlices};
 ghost use Rattle.listing.specs.Steps.{goesOn, answered, headStep};
-ghost use Rattle.listing.specs.Listing.{leaving, lineLeaves};
-ghost use Rattle.listing.specs.Parts.{Fair, Clockable, Words, SettingsRead, SettingsTaken, ClockTaken, PortsTaken};
+ghost use Rattle.listing.specs.Listing.{leaving, turnOf, byteTurn};
+ghost use Rattle.listing.specs.Parts.{Fair, Clockable, Words, SettingsRead, SettingsTaken, PortsTaken, Frames, Ending, playing};
 use crate::letters;
-use crate::player::Event;
-use crate::player::Phase;
-use crate::player::Player;
-use crate::player::Step;
+use crate::steps;
+use crate::steps::Step;
 use column::Attributes;
 use column::Outputs;
 use column::Ports;
 use column::Registers;
+use event::Event;
+use player::Phase;
+use player::Player;
 
 fn wide(n: usize) -> u64
     ensures { λ r. ⌜ r ≡ n ⌝ }
@@ -42,7 +43,7 @@ fn answered(q: Player, answer: column::Answer, accepted: Step) -> Step
     if number == 0 {
         return accepted;
     }
-    q.refused(number, wide(column::place(answer)))
+    steps::refused(q, number, wide(column::place(answer)))
 }
 
 // The `N` line.
@@ -51,13 +52,13 @@ fn take_head(q: Player, line: &[u8]) -> Step
 {
     let mut words = [0u64; 1];
     if !text::line(line, letters::N, &mut words) {
-        return q.refused(12, q.lines);
+        return steps::refused(q, 12, q.lines);
     }
     let count = words[0];
-    if !((1 <= count) & (count <= crate::MOST_SLICES as u64)) {
-        return q.refused(1, 0);
+    if !((1 <= count) & (count <= player::MOST_SLICES as u64)) {
+        return steps::refused(q, 1, 0);
     }
-    quiet(q.named(count as usize))
+    quiet(steps::named(q, count as usize))
 }
 
 // The attributes that a line has that does not name USE_SIMD.
@@ -81,44 +82,17 @@ fn take_settings(q: Player, line: &[u8], attributes: &mut [u64]) -> Step
 {
     let a = Attributes::WORDS * q.given;
     if !read_settings(line, &mut attributes[a..a + Attributes::WORDS]) {
-        return q.refused(12, q.lines);
+        return steps::refused(q, 12, q.lines);
     }
     let count = q.count;
     if q.given + 1 < count {
-        return quiet(q.after_slice());
+        return quiet(steps::after_slice(q));
     }
     let answer = column::attributes_answer(count, &attributes[..Attributes::WORDS * count]);
-    answered(q, answer, quiet(q.clocking()))
+    answered(q, answer, quiet(steps::clocking(q)))
 }
 
-// A clock whose ports are all given: the column's own clock on the words of its slices.
-fn take_clock(
-    q: Player,
-    attributes: &[u64],
-    registers: &mut [u64],
-    ports: &[u64],
-    outputs: &mut [u64],
-) -> Step
-    requires { ⌜ Clockable q × Words (now attributes) (now registers) (now ports) (now outputs) ⌝ }
-    ensures { λ r.
-        ⌜ ClockTaken q (now (attributes .entry)) (now (registers .entry)) (now (ports .entry)) (now (outputs .entry)) r (now (registers .exit)) (now (outputs .exit)) ⌝ }
-{
-    let count = q.count;
-    let answer = column::clock(
-        count,
-        &attributes[..Attributes::WORDS * count],
-        &mut registers[..Registers::WORDS * count],
-        &ports[..Ports::WORDS * count],
-        &mut outputs[..Outputs::WORDS * count],
-    );
-    let step = Step {
-        player: q.after_clock(),
-        event: Event::Clocked(q.clocks),
-    };
-    answered(q, answer, step)
-}
-
-// A `P` line. The clock is run after the last of them.
+// A `P` line. The clock, the column's own on the words of its slices, is run after the last of them.
 fn take_ports(
     q: Player,
     line: &[u8],
@@ -133,32 +107,53 @@ fn take_ports(
 {
     let p = Ports::WORDS * q.given;
     if !text::line(line, letters::P, &mut ports[p..p + Ports::WORDS]) {
-        return q.refused(12, q.lines);
+        return steps::refused(q, 12, q.lines);
     }
-    if q.given + 1 < q.count {
-        return quiet(q.after_slice());
+    let slices = q.count;
+    if q.given + 1 < slices {
+        return quiet(steps::after_slice(q));
     }
-    take_clock(q, attributes, registers, &ports[..], outputs)
+    let answer = column::clock(
+        slices,
+        &attributes[..Attributes::WORDS * slices],
+        &mut registers[..Registers::WORDS * slices],
+        &ports[..Ports::WORDS * slices],
+        &mut outputs[..Outputs::WORDS * slices],
+    );
+    let step = Step {
+        player: steps::after_clock(q),
+        event: Event::Clocked(q.clocks),
+    };
+    answered(q, answer, step)
 }
 
-// A line of the kind that is due.
-pub fn take_line(
+// Ends a line.
+pub const NEWLINE: u8 = b'\n';
+
+// The byte that a stretch of a line's bytes ends at: a newline ends a line of the kind that is due, and any other byte is one too many.
+pub fn take_end(
     q: Player,
-    line: &[u8],
+    b: u8,
     attributes: &mut [u64],
     registers: &mut [u64],
     ports: &mut [u64],
     outputs: &mut [u64],
+    line: &[u8],
 ) -> Step
-    requires { ⌜ Clockable q × Words (now attributes) (now registers) (now ports) (now outputs) ⌝ }
+    requires { ⌜ Ending q b × Frames (now attributes) (now registers) (now ports) (now outputs) (now line) ⌝ }
     ensures { λ r.
-        ⌜ leaving r (now (attributes .exit)) (now (registers .exit)) (now (ports .exit)) (now (outputs .exit)) ≡ lineLeaves (q .phase) q (now (line .entry)) (now (attributes .entry)) (now (registers .entry)) (now (ports .entry)) (now (outputs .entry)) ⌝ }
+        ⌜ turnOf (leaving r (now (attributes .exit)) (now (registers .exit)) (now (ports .exit)) (now (outputs .exit))) (now (line .entry)) ≡ byteTurn (playing q (now (attributes .entry)) (now (registers .entry)) (now (ports .entry)) (now (outputs .entry)) (now (line .entry))) b ⌝ }
 {
+    if b != NEWLINE {
+        return steps::refused(q, 12, q.lines + 1);
+    }
+    let text = &line[..q.held];
     let phase = q.phase;
+    let counted = steps::after_line(q);
     match phase {
-        Phase::Head => take_head(q, line),
-        Phase::Settings => take_settings(q, line, attributes),
-        Phase::Clocks => take_ports(q, line, &attributes[..], registers, ports, outputs),
-        Phase::Stopped => quiet(q),
+        Phase::Head => take_head(counted, text),
+        Phase::Settings => take_settings(counted, text, attributes),
+        Phase::Clocks => take_ports(counted, text, &attributes[..], registers, ports, outputs),
+        Phase::Stopped => quiet(counted),
     }
 }

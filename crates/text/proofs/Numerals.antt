@@ -2,21 +2,21 @@
 use mathlib.Core.Path.{_≡_, refl, sym, ap, _∙_}
 use mathlib.Core.Bool.{Bool, true, false, cond, _&&_, and-true, and-false}
 use mathlib.Core.List.{List, [], _∷_}
-use Prim.Native.Nat.{ℕ, suc, _+_, _*_, _-_, _^_, _<_, _≤_}
+use Prim.Native.Nat.{ℕ, suc, _+_, _*_, _-_, _%_, _^_, _<_, _≤_}
 use native.Mathlib.Nat.{add-zero}
 use native.Mathlib.Numerals.{add-one}
 use native.Mathlib.Omega.{arith}
-use lib.Dec.{eqb, ltb}
+use lib.Dec.{eqb, leb, ltb}
 use lib.ListN.{length, drop, getD, length-drop}
 use lib.Seq.{drop-cons, drop-length, getD-drop}
-use borrow.Author.Tests.{le-leb, lt-leb, lt-ltb, le-ltb, eq-eqb, ne-eqb}
+use borrow.Author.Tests.{le-leb, lt-leb, leb-true, lt-ltb, le-ltb, eq-eqb, ne-eqb}
 use Rattle.text.specs.Bytes.{tab, digit0, digit9}
 use Rattle.text.specs.declared.numeral.Parsed.{Parsed}
 use Rattle.text.specs.declared.numeral.Parsed.the-variants.{Value, Bad}
 use Rattle.text.specs.declared.numeral.Found.{Found}
 use Rattle.text.specs.declared.numeral.Found.the-variants.{Number, Nothing}
 use Rattle.text.specs.Numbers.{isDigit, digitsFrom, numberOf}
-use Rattle.text.specs.Within.{before, upTo, digitsAt, numberAt}
+use Rattle.text.specs.Within.{below64, before, upTo, digitsAt, numberAt}
 
 pub cond-same : {A : Type 0} (t : Bool) (x : A) → cond t x x ≡ x
 cond-same true x = refl
@@ -29,20 +29,26 @@ next-byte s i h = rw (add-one, drop-cons s i 0)
 pub none-left : (s : List ℕ) (i : ℕ) → i ≡ length s → drop i s ≡ []
 none-left s i e = rw e (drop-length s)
 
--- what `with_digit` leaves
-module _ (v b : ℕ) where
-  pub digit-low : b < digit0 → Bad ≡ digitsFrom v (b ∷ [])
-  digit-low h = rw (lt-leb digit0 b h)
+-- a number below 2^64, and one that is not
+pub under : (n : ℕ) → n < 2 ^ 64 → Value n ≡ below64 n
+under n h = rw (lt-ltb n (2 ^ 64) h)
 
-  pub digit-high : digit9 < b → Bad ≡ digitsFrom v (b ∷ [])
-  digit-high h = rw (le-leb digit0 b (omega arith), lt-leb b digit9 h)
+pub over : (n : ℕ) → 2 ^ 64 ≤ n → Bad ≡ below64 n
+over n h = rw (le-ltb n (2 ^ 64) h)
 
-  module _ (low : digit0 ≤ b) (high : b ≤ digit9) where
-    pub digit-over : 2 ^ 64 ≤ 10 * v + (b - digit0) → Bad ≡ digitsFrom v (b ∷ [])
-    digit-over h = rw (le-leb digit0 b low, le-leb b digit9 high, le-ltb (10 * v + (b - digit0)) (2 ^ 64) h)
+-- what `with_digit` leaves, by what the byte stands above the first digit, modulo 2^8
+module _ (v b worth : ℕ) (small : worth < 2 ^ 8) (e : (worth + digit0) % 2 ^ 8 ≡ b) where
+  pub no-digit : 9 < worth → Bad ≡ digitsFrom v (b ∷ [])
+  no-digit h = go (leb digit0 b) refl
+    where
+      go : (t : Bool) → leb digit0 b ≡ t → Bad ≡ digitsFrom v (b ∷ [])
+      go false low = rw low
+      go true high = rw (high, lt-leb b digit9 (omega (arith, leb-true digit0 b high)))
 
-    pub digit-more : 10 * v + (b - digit0) < 2 ^ 64 → Value (10 * v + (b - digit0)) ≡ digitsFrom v (b ∷ [])
-    digit-more h = rw (le-leb digit0 b low, le-leb b digit9 high, lt-ltb (10 * v + (b - digit0)) (2 ^ 64) h)
+  pub a-digit : worth ≤ 9 → below64 (10 * v + worth) ≡ digitsFrom v (b ∷ [])
+  a-digit h =
+      let above : b - digit0 ≡ worth = omega arith in
+      rw (le-leb digit0 b (omega arith), le-leb b digit9 (omega arith), above)
 
 -- the digits that follow go on from the number so far
 abbrev onward : Parsed → List ℕ → Parsed

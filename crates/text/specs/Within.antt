@@ -1,16 +1,24 @@
 -- What the private functions promise each other. No caller needs it. Assumes nothing.
-use Prim.Native.Nat.{ℕ, _+_}
+use Prim.Native.Nat.{ℕ, _+_, _/_, _%_, _^_}
 use mathlib.Core.Bool.{Bool, true, false, cond, not, _&&_}
 use mathlib.Core.List.{List, [], _∷_}
 use lib.Dec.{eqb, leb, ltb}
 use lib.ListN.{length, drop, getD}
-use Rattle.text.specs.Bytes.{tab, mostBytes}
+use Rattle.text.specs.Bytes.{tab, digit0, mostBytes}
 use Rattle.text.specs.declared.numeral.Parsed.{Parsed}
 use Rattle.text.specs.declared.numeral.Parsed.the-variants.{Value, Bad}
 use Rattle.text.specs.declared.numeral.Found.{Found}
 use Rattle.text.specs.declared.numeral.Found.the-variants.{Number, Nothing}
 use Rattle.text.specs.Parts.{parted}
 use Rattle.text.specs.Numbers.{digitsFrom, numberOf, Numbers, values, malformed, counted}
+
+-- the two digits of a number below 100
+abbrev pub pairOf : (n : ℕ) → List ℕ
+pairOf n = (digit0 + n / 10) ∷ (digit0 + n % 10) ∷ []
+
+-- a number where it is below 2^64
+abbrev pub below64 : (n : ℕ) → Parsed
+below64 n = cond (ltb n (2 ^ 64)) (Value n) Bad
 
 -- the bytes before the first sep
 abbrev pub before : (sep : ℕ) → List ℕ → List ℕ

@@ -4,5 +4,3 @@ pub const TAB: u8 = b'\t';
 pub const NEWLINE: u8 = b'\n';
 
 pub const DIGIT_0: u8 = b'0';
-
-pub const DIGIT_9: u8 = b'9';

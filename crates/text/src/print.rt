@@ -1,13 +1,25 @@
 // Lines of numbers, printed into lent bytes. Each function answers where its bytes end.
-ghost use Prim.Native.Nat.{_+_, _*_, _≤_};
+ghost use Prim.Native.Nat.{_+_, _*_, _<_, _≤_};
+ghost use mathlib.Core.List.{_++_};
 ghost use lib.ListN.{length};
 ghost use Rattle.text.specs.Bytes.{fieldRoom};
 ghost use Rattle.text.specs.Printed.{decimalOf, fieldOf, fieldsOf, printed, Put};
+ghost use Rattle.text.specs.Within.{pairOf};
 use crate::ascii::DIGIT_0;
 use crate::ascii::NEWLINE;
 use crate::ascii::TAB;
 
-// A number's digits. The last is put after those before it, so nothing has to be counted first.
+// Two digits.
+fn pair(n: u64, out: &mut [u8], at: usize) -> usize
+    requires { ⌜ (n < 100) × (at + 2 ≤ length (now out)) ⌝ }
+    ensures { λ r. ⌜ Put at (pairOf n) (now (out .entry)) r (now (out .exit)) ⌝ }
+{
+    out[at] = DIGIT_0 + (n / 10) as u8;
+    out[at + 1] = DIGIT_0 + (n % 10) as u8;
+    at + 2
+}
+
+// A number's digits. The last two are put after those before them, so nothing has to be counted first.
 fn decimal(n: u64, out: &mut [u8], at: usize) -> usize
     requires { ⌜ at + length (decimalOf n) ≤ length (now out) ⌝ }
     ensures { λ r. ⌜ Put at (decimalOf n) (now (out .entry)) r (now (out .exit)) ⌝ }
@@ -16,9 +28,11 @@ fn decimal(n: u64, out: &mut [u8], at: usize) -> usize
         out[at] = DIGIT_0 + n as u8;
         return at + 1;
     }
-    let end = decimal(n / 10, out, at);
-    out[end] = DIGIT_0 + (n % 10) as u8;
-    end + 1
+    if n < 100 {
+        return pair(n, out, at);
+    }
+    let end = decimal(n / 100, out, at);
+    pair(n % 100, out, end)
 }
 
 // A tab and a number.
@@ -27,6 +41,11 @@ fn field(n: u64, out: &mut [u8], at: usize) -> usize
     ensures { λ r. ⌜ Put at (fieldOf n) (now (out .entry)) r (now (out .exit)) ⌝ }
 {
     out[at] = TAB;
+    // Most numbers have one digit: those are put without a call.
+    if n < 10 {
+        out[at + 1] = DIGIT_0 + n as u8;
+        return at + 2;
+    }
     decimal(n, out, at + 1)
 }
 
@@ -42,13 +61,14 @@ fn fields(numbers: &[u64], out: &mut [u8], at: usize) -> usize
     end
 }
 
-// The letter, the numbers and a newline.
-pub fn line(letter: u8, numbers: &[u64], out: &mut [u8], at: usize) -> usize
-    requires { ⌜ at + fieldRoom * length (now numbers) + 2 ≤ length (now out) ⌝ }
-    ensures { λ r. ⌜ Put at (printed letter (now (numbers .entry))) (now (out .entry)) r (now (out .exit)) ⌝ }
+// The letter, the numbers of both lists and a newline.
+pub fn line(letter: u8, numbers: &[u64], more: &[u64], out: &mut [u8], at: usize) -> usize
+    requires { ⌜ at + fieldRoom * (length (now numbers) + length (now more)) + 2 ≤ length (now out) ⌝ }
+    ensures { λ r. ⌜ Put at (printed letter (now (numbers .entry) ++ now (more .entry))) (now (out .entry)) r (now (out .exit)) ⌝ }
 {
     out[at] = letter;
-    let end = fields(numbers, out, at + 1);
+    let middle = fields(numbers, out, at + 1);
+    let end = fields(more, out, middle);
     out[end] = NEWLINE;
     end + 1
 }

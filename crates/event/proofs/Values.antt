@@ -1,0 +1,49 @@
+-- Facts by value that pin what is printed: each stands beside a slip that would break it. Assumes nothing.
+use mathlib.Core.Path.{_≡_, refl}
+use mathlib.Core.List.{List, [], _∷_, _++_}
+use Prim.Native.Nat.{ℕ}
+use lib.ListN.{replicate}
+use Rattle.text.specs.Printed.{printed, decimalOf}
+use Rattle.event.specs.declared.Event.the-variants.{Nothing, Clocked, Refused, Ended}
+use Rattle.event.specs.Events.{outputLine, bytesOf, bytesWithin}
+
+-- the outputs of two slices
+abbrev two : List ℕ
+two = 10 ∷ 11 ∷ 12 ∷ 13 ∷ 14 ∷ 15 ∷ 16 ∷ 20 ∷ 21 ∷ 22 ∷ 23 ∷ 24 ∷ 25 ∷ 26 ∷ []
+
+abbrev two-lines : List ℕ
+two-lines = printed 79 (3 ∷ 0 ∷ 10 ∷ 11 ∷ 12 ∷ 13 ∷ 14 ∷ 15 ∷ 16 ∷ []) ++ printed 79 (3 ∷ 1 ∷ 20 ∷ 21 ∷ 22 ∷ 23 ∷ 24 ∷ 25 ∷ 26 ∷ [])
+
+pub record Prints : Type 0 where
+  -- within a clock from slice 0 up
+  pub slices-up : bytesOf (Clocked 3) 2 two ≡ two-lines
+  pub refusal : bytesOf (Refused 7 2 1) 2 two ≡ printed 82 (7 ∷ 2 ∷ 1 ∷ [])
+  pub end : bytesOf (Ended 57) 2 two ≡ printed 69 (57 ∷ [])
+  pub nothing : bytesOf Nothing 2 two ≡ []
+
+-- an event is printed whole where there is room for it, else not at all: 210 bytes an `O` line, 84 an `R` line, 42 an `E` line
+pub record Room : Type 0 where
+  pub clock : bytesWithin (Clocked 3) 2 two 1 (replicate 421 0) ≡ two-lines
+  pub clock-short : bytesWithin (Clocked 3) 2 two 1 (replicate 420 0) ≡ []
+  pub outputs-short : bytesWithin (Clocked 3) 3 two 1 (replicate 800 0) ≡ []
+  pub refusal : bytesWithin (Refused 7 2 1) 2 [] 1 (replicate 85 0) ≡ printed 82 (7 ∷ 2 ∷ 1 ∷ [])
+  pub refusal-short : bytesWithin (Refused 7 2 1) 2 [] 1 (replicate 84 0) ≡ []
+  pub end : bytesWithin (Ended 57) 0 [] 1 (replicate 43 0) ≡ printed 69 (57 ∷ [])
+  pub end-short : bytesWithin (Ended 57) 0 [] 1 (replicate 42 0) ≡ []
+
+pub prints : Prints
+unfolding outputLine printed decimalOf
+prints = record { slices-up = refl; refusal = refl; end = refl; nothing = refl }
+
+pub room : Room
+unfolding bytesWithin outputLine printed decimalOf
+room =
+    record {
+      clock = refl;
+      clock-short = refl;
+      outputs-short = refl;
+      refusal = refl;
+      refusal-short = refl;
+      end = refl;
+      end-short = refl;
+    }

@@ -1,0 +1,31 @@
+-- `player::store` meets its contract: word by word. Assumes nothing.
+use native.Mathlib.Omega.{arith}
+use lib.ListN.{length, length-set}
+use borrow.Author.Tests.{ne-eqb}
+use Rattle.lent.proofs.Laws.{stored-all}
+use Rattle.player.specs.Numbers.{playerNumbers, playerWords}
+use Rattle.player.proofs.Stored.{all-six}
+use borrow.Author.Needs.{needs}
+use Rattle.player.proofs.store.Statement.{statement}
+use Rattle.player.proofs.store.Tie as tie
+
+other : tie.Need-returns
+other c = rw (ne-eqb (length (c .before .before .args .numbers .now)) playerNumbers (c .if1 .taken))
+
+fifth : tie.Need-slice-write-numbers-5
+fifth c = simp length-set (omega (arith, c .before .if1 .left))
+
+sixth : tie.Need-slice-write-numbers-6
+sixth c = simp length-set (omega (arith, c .before .if1 .left))
+
+returns : tie.Need-returns-2
+returns c =
+    let a = c .before .before .before .args in
+    rw (c .phase-number .ensures, stored-all (a .numbers .now) (playerWords (a .player)) (c .before .if1 .left))
+    (all-six (a .numbers .now) (c .before .if1 .left) _ _ _ _ _ _)
+
+pub store-spec : {M : Type 1} → statement M
+store-spec =
+    tie.close
+    (tie.spec other (λ c κs. search needs) (λ c. search needs) (λ c. search needs) (λ c. search needs) (λ c. search needs) fifth sixth
+    (λ c. search needs) returns)
