@@ -142,7 +142,7 @@ stopped-played room p (b ∷ bs) h stopped =
     one ∙ ap (further (record { play = p; says = [] })) (stopped-played room p bs h stopped)
 
 -- a stretch of bytes is what byte after byte leaves, and prints nothing
-reach-played : (room : ℕ) (p : Play) (text : List ℕ) → clockRoom ≤ room
+pub reach-played : (room : ℕ) (p : Play) (text : List ℕ) → clockRoom ≤ room
     → (let x = stretchOf (p .player) (p .line) text in
     played room p text ≡ following (x .count) [] (played room (reached x p) (drop (x .count) text)))
 reach-played room p text h = go (working (p .player .phase)) refl
