@@ -12,7 +12,8 @@ use Rattle.event.specs.declared.Event.{Event}
 use Rattle.event.specs.declared.Event.the-variants.{Nothing, Clocked, Refused, Ended}
 use Rattle.event.specs.Letters.{letterO, letterR, letterE}
 
--- "`O`, clock, slice, the five outputs"; "outputs grow to 6 words a slice" and "`O` lines grow alike" (02, Ask 4)
+-- "`O`, clock, slice, the five outputs"; "outputs grow to 6 words a slice" and "`O` lines grow alike" (02, Ask 4); "output word 7" (02,
+-- Ask 7)
 unfoldable pub outputLine : (clock : ℕ) → (outputs : List ℕ) → (k : ℕ) → List ℕ
 outputLine clock os k = printed letterO (clock ∷ k ∷ stretch outputWords k os)
 
