@@ -92,13 +92,9 @@ build/play: compare/play.c
 	mkdir -p build
 	$(CC) $(CFLAGS) -D_GNU_SOURCE -o $@ compare/play.c
 
-build/interactive: bench/interactive.c
+build/interactive build/first-match build/cuts: build/%: bench/%.c bench/piped.c bench/piped.h
 	mkdir -p build
-	$(CC) $(CFLAGS) -D_GNU_SOURCE -o $@ bench/interactive.c
-
-build/cuts: bench/cuts.c
-	mkdir -p build
-	$(CC) $(CFLAGS) -D_GNU_SOURCE -o $@ bench/cuts.c
+	$(CC) $(CFLAGS) -D_GNU_SOURCE -o $@ $< bench/piped.c
 
 # dspcol proved and built, where its crate is and it is not.
 dspcol-built:
@@ -132,7 +128,7 @@ build/benchmark: bench/benchmark.c bench/scene.c bench/scene.h model/column.c mo
 benchmark: build/benchmark build/listing $(if $(KIT_CLANG),build/listing-kit) build/long-listing build/timed dspcol-built
 	DSPCOL='$(DSPCOL)' scripts/benchmark
 
-# LINES lines through dspcol, and its peak memory; adds them to docs/BENCHMARKS.md.
+# LINES lines through dspcol, with all that they print and to a first match, and its peak memory; adds them to docs/BENCHMARKS.md.
 soak: build/long-listing build/timed dspcol-built
 	DSPCOL='$(DSPCOL)' scripts/soak $(LINES)
 
@@ -153,8 +149,8 @@ compare-long: build/answer dspcol-built
 planted:
 	scripts/planted
 
-# dspcol driven clock by clock, and its failed reads and writes.
-interactive: build/interactive build/long-listing dspcol-built
+# dspcol driven clock by clock, to its first match too, and its failed reads and writes.
+interactive: build/interactive build/first-match build/long-listing dspcol-built
 	DSPCOL='$(DSPCOL)' scripts/interactive
 
 # Listings cut into pieces at many places, with ALL=1 in two at every byte; and one whose output is longer than any buffer.

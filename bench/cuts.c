@@ -6,26 +6,23 @@
  * With "all" there is a run for each place, the two ends too, which cuts the listing in two. With a seed the places are every
  * byte of its first and last two lines, a few of each kind between them, and some drawn from all others there; a run then cuts
  * at up to MOST_CUTS of them, far apart, since it is the start of a program that costs. A piece is written to the program's
- * pipe once the program has read all before it and waits for more, which the state of its process tells. Both files have to
- * be shorter than a pipe holds. Fails at the first run that prints otherwise; else prints how many places were cut, how many
- * there are, and the runs.
+ * pipe once the program has read all before it and waits for more, which the state of its process tells, or has ended. Both
+ * files have to be shorter than a pipe holds. Fails at the first run that prints otherwise; else prints how many places were
+ * cut, how many there are, and the runs.
  */
+#include "piped.h"
+
 #include <ctype.h>
 #include <errno.h>
 #include <fcntl.h>
-#include <sched.h>
 #include <signal.h>
 #include <stdint.h>
 #include <stdio.h>
 #include <stdlib.h>
 #include <string.h>
-#include <sys/ioctl.h>
-#include <sys/wait.h>
-#include <time.h>
 #include <unistd.h>
 
 #define MOST_BYTES 32768
-#define MOST_SECONDS 20
 #define MOST_CUTS 4
 #define MOST_IN_LINE 512
 #define WHOLE_LINES 2
@@ -39,12 +36,13 @@ struct text {
 
 static struct text listing, expected, printed;
 static size_t places[MOST_BYTES + 1], place_count, runs;
-static pid_t child;
-static int to_program, from_program;
+static struct piped program;
 
 static void fail(const char *what)
 {
     perror(what);
+    if (program.id > 0)
+        kill(program.id, SIGKILL);
     exit(2);
 }
 
@@ -163,77 +161,29 @@ static void choose_places(const char *seed)
 
 /* ---- one run */
 
-static void start(char **program)
-{
-    int down[2], up[2];
-    if (pipe2(down, O_CLOEXEC) != 0 || pipe2(up, O_CLOEXEC) != 0 || (child = fork()) < 0)
-        fail("no pipe or no process");
-    if (child == 0) {
-        dup2(down[0], 0);
-        dup2(up[1], 1);
-        signal(SIGPIPE, SIG_DFL);
-        execvp(program[0], program);
-        perror(program[0]);
-        _exit(127);
-    }
-    close(down[0]);
-    close(up[1]);
-    to_program = down[1];
-    from_program = up[0];
-}
-
-/* The state's letter follows the command's name, which is in brackets. */
-static char state_of_child(void)
-{
-    char path[64], text[512], *end;
-    snprintf(path, sizeof path, "/proc/%ld/stat", (long)child);
-    int file = open(path, O_RDONLY | O_CLOEXEC);
-    ssize_t got = file < 0 ? -1 : read(file, text, sizeof text - 1);
-    if (got < 0)
-        fail(path);
-    close(file);
-    text[got] = '\0';
-    end = strrchr(text, ')');
-    return end && end[1] == ' ' ? end[2] : '?';
-}
-
-/* The pipe is empty and the program sleeps, or it has ended. */
-static void wait_until_drained(void)
-{
-    time_t began = time(NULL);
-    for (;;) {
-        int waiting = 0;
-        char state = state_of_child();
-        if (state == 'Z' || (state == 'S' && ioctl(to_program, FIONREAD, &waiting) == 0 && waiting == 0))
-            return;
-        if (time(NULL) > began + MOST_SECONDS)
-            fail("the program does not read");
-        sched_yield();
-    }
-}
-
-/* A program that has refused the listing takes no more of it. */
+/* A program that has refused the listing, or has found its match, takes no more of it. */
 static void send_part(size_t from, size_t to)
 {
-    if (to > from && write(to_program, listing.bytes + from, to - from) < 0 && errno != EPIPE)
+    if (to > from && write(program.to, listing.bytes + from, to - from) < 0 && errno != EPIPE)
         fail("the program's pipe");
 }
 
 /* A run takes one place in so many as there are runs: its places are far apart. */
-static int plays_alike(size_t run, char **program)
+static int plays_alike(size_t run, char **words)
 {
-    int status;
     size_t sent = 0;
-    start(program);
+    if (!start_piped(&program, words))
+        fail("no pipe or no process");
     for (size_t i = run; i < place_count; i += runs) {
         send_part(sent, places[i]);
-        wait_until_drained();
+        if (wait_until_read(&program) == DOES_NOT_READ)
+            fail("the program does not read");
         sent = places[i];
     }
     send_part(sent, listing.length);
-    close(to_program);
-    read_text(from_program, &printed);
-    if (waitpid(child, &status, 0) != child || status != 0)
+    close(program.to);
+    read_text(program.from, &printed);
+    if (!ends_well(&program))
         return 0;
     return printed.length == expected.length && memcmp(printed.bytes, expected.bytes, printed.length) == 0;
 }

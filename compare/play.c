@@ -4,7 +4,8 @@
  *   play LISTINGS ANSWERS WORKERS SHARE SEED PROGRAM [WORD..]
  *
  * WORKERS listings are played at a time. One listing in SHARE (0: none) is not given as a file but written to a pipe in
- * pieces of random sizes, each once the program has read the piece before, so that a program's reads end anywhere.
+ * pieces of random sizes, each once the program has read the piece before, so that a program's reads end anywhere. A program
+ * may end before it has read all: then no more is written, and that is no failure.
  */
 #include <dirent.h>
 #include <fcntl.h>

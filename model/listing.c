@@ -1,6 +1,7 @@
 /*
  * Plays a port listing from standard input to standard output, over the plain
  * model. Without arguments; a refusal is part of the answer and no failure.
+ * Where the N line names a slice, only its first match is printed.
  */
 #include "column.h"
 
@@ -16,6 +17,7 @@ enum line { LINE_READ, LINE_BROKEN, LINE_NONE };
 static char line[LINE_MOST];
 static size_t line_length;
 static unsigned long line_number;
+static size_t numbers_given;
 static unsigned long long clocks;
 
 static void failed(const char *what)
@@ -78,6 +80,7 @@ static int parse_line(char tag, uint64_t *numbers, size_t least, size_t most)
         if (!read_number(&at, &numbers[i]))
             return 0;
     }
+    numbers_given = i;
     for (; i < most; i++)
         numbers[i] = 0;
     return at == line_length;
@@ -128,16 +131,31 @@ static void print_outputs(const struct outputs *outputs, uint64_t count)
     }
 }
 
+/* What a clock prints where a slice is named: nothing, or its match, which is the last thing. */
+static void print_match(const struct outputs *outputs, uint64_t slice)
+{
+    if (!outputs[slice].patterndetect)
+        return;
+    printf("M\t%llu\n", clocks);
+    finish();
+}
+
 int main(void)
 {
     static uint64_t attributes[COLUMN_TALLEST * ATTRIBUTE_WORDS];
     static uint64_t registers[COLUMN_TALLEST * REGISTER_WORDS];
     static uint64_t ports[COLUMN_TALLEST * PORT_WORDS];
     static uint64_t outputs[COLUMN_TALLEST * OUTPUT_WORDS];
-    uint64_t count, k;
+    uint64_t column[2], count, slice, k;
+    int names_slice;
 
-    want('N', &count, 1, 1, 0);
+    want('N', column, 1, 2, 0);
+    count = column[0];
+    slice = column[1];
+    names_slice = numbers_given == 2;
     refuse_word(column_check_count(count));
+    if (names_slice && slice >= count)
+        refuse(13, 0);
     for (k = 0; k < count; k++)
         want('A', attributes + k * ATTRIBUTE_WORDS, ATTRIBUTE_WORDS_LEAST, ATTRIBUTE_WORDS, 0);
     refuse_word(column_check_attributes(count, attributes));
@@ -149,7 +167,10 @@ int main(void)
                                  registers, count * REGISTER_WORDS,
                                  ports, count * PORT_WORDS,
                                  outputs, count * OUTPUT_WORDS));
-        print_outputs((const struct outputs *)outputs, count);
+        if (names_slice)
+            print_match((const struct outputs *)outputs, slice);
+        else
+            print_outputs((const struct outputs *)outputs, count);
         clocks++;
     }
     printf("E\t%llu\n", clocks);

@@ -19,6 +19,15 @@ pub fn height(count: u64) -> Result<usize, Refusal> {
     }
 }
 
+/// The place of a chosen slice, when a column of this height has it.
+pub fn slice_within(height: usize, slice: u64) -> Result<usize, Refusal> {
+    if slice < height as u64 {
+        Ok(slice as usize)
+    } else {
+        Err(Refusal::whole(Reason::Slice))
+    }
+}
+
 /// Slices with their settings and what they remember, bottom first.
 #[derive(Clone, Debug)]
 pub struct Column {

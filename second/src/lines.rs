@@ -54,18 +54,14 @@ impl<R: BufRead> Lines<R> {
 }
 
 /// The numbers of a line, when it has just this tag and a count of them that
-/// it may have; those it leaves out are 0.
+/// it may have.
 pub fn numbers(line: &[u8], tag: u8, counts: &Counts) -> Option<Vec<u64>> {
     let mut fields = line.split(|byte| *byte == b'\t');
     if fields.next()? != [tag] {
         return None;
     }
-    let mut numbers: Vec<u64> = fields.map(decimal).collect::<Option<_>>()?;
-    if !counts.contains(&numbers.len()) {
-        return None;
-    }
-    numbers.resize(*counts.end(), 0);
-    Some(numbers)
+    let numbers: Vec<u64> = fields.map(decimal).collect::<Option<_>>()?;
+    counts.contains(&numbers.len()).then_some(numbers)
 }
 
 /// Digits alone, no leading zero but for 0 itself, below 2^64.

@@ -1,15 +1,32 @@
-//! Plays a port listing: reads lines, clocks a column, prints what it shows.
+//! Plays a port listing: reads lines, clocks a column, prints what it shows,
+//! or only the first clock in which a chosen slice matches (02, Ask 8).
 
 use std::io::{self, BufRead, Write};
 
 use crate::attributes::Attributes;
-use crate::column::{height, read_attributes, Column};
+use crate::column::{height, read_attributes, slice_within, Column};
 use crate::lines::{numbers, Counts, Lines, Next};
 use crate::ports::Ports;
 use crate::refusal::{Reason, Refusal};
 use crate::slice::Outputs;
 
-/// How a listing's play can stop early.
+/// What is wanted of the clocks.
+enum Wanted {
+    /// All that is shown in each of them.
+    Outputs,
+    /// The first in which this slice shows PATTERNDETECT.
+    Match { slice: usize },
+}
+
+/// How an accepted listing's play ends.
+enum End {
+    /// All of the listing was played.
+    Whole,
+    /// The chosen slice matched in this clock.
+    Match { clock: u64 },
+}
+
+/// How a listing's play can break off.
 enum Stop {
     Refused(Refusal),
     Failed(io::Error),
@@ -42,7 +59,8 @@ pub fn play(input: impl BufRead, output: impl Write) -> io::Result<()> {
     let outcome = play.run();
     let clocks = play.clocks;
     match outcome {
-        Ok(()) => writeln!(play.printed, "E\t{clocks}")?,
+        Ok(End::Whole) => writeln!(play.printed, "E\t{clocks}")?,
+        Ok(End::Match { clock }) => writeln!(play.printed, "M\t{clock}")?,
         Err(Stop::Refused(Refusal { reason, place })) => {
             writeln!(play.printed, "R\t{}\t{clocks}\t{place}", reason as u64)?
         }
@@ -56,18 +74,31 @@ pub fn play(input: impl BufRead, output: impl Write) -> io::Result<()> {
 }
 
 impl<R: BufRead, W: Write> Play<R, W> {
-    fn run(&mut self) -> Result<(), Stop> {
-        let count = self.due(b'N', &(1..=1))?[0];
-        let height = height(count)?;
+    fn run(&mut self) -> Result<End, Stop> {
+        let (height, wanted) = self.heading()?;
         let settings = self.group(b'A', &Attributes::LISTED, height)?;
         let mut column = Column::cleared(read_attributes(&settings)?);
         while let Some(mut words) = self.line(b'P', &Ports::LISTED)? {
             words.extend(self.group(b'P', &Ports::LISTED, height - 1)?);
+            // A refused clock shows nothing, so it never matches.
             let shown = column.clock_words(&words)?;
-            self.print(&shown)?;
+            if let Some(end) = self.take(&wanted, &shown)? {
+                return Ok(end);
+            }
             self.clocks += 1;
         }
-        Ok(())
+        Ok(End::Whole)
+    }
+
+    /// The column's height, and what is wanted of its clocks.
+    fn heading(&mut self) -> Result<(usize, Wanted), Stop> {
+        let numbers = self.due(b'N', &(1..=2))?;
+        let height = height(numbers[0])?;
+        let wanted = match numbers.get(1) {
+            None => Wanted::Outputs,
+            Some(slice) => Wanted::Match { slice: slice_within(height, *slice)? },
+        };
+        Ok((height, wanted))
     }
 
     /// The next line's numbers, or nothing at the end of the input.
@@ -86,17 +117,28 @@ impl<R: BufRead, W: Write> Play<R, W> {
         self.line(tag, counts)?.ok_or_else(|| self.malformed())
     }
 
-    /// The numbers of several lines of one kind.
+    /// The numbers of several lines of one kind; those a line leaves out are 0.
     fn group(&mut self, tag: u8, counts: &Counts, lines: usize) -> Result<Vec<u64>, Stop> {
         let mut words = Vec::with_capacity(counts.end() * lines);
-        for _ in 0..lines {
+        for line in 1..=lines {
             words.extend(self.due(tag, counts)?);
+            words.resize(counts.end() * line, 0);
         }
         Ok(words)
     }
 
     fn malformed(&self) -> Stop {
         Stop::Refused(Refusal::at(Reason::Line, self.line))
+    }
+
+    /// Takes what is wanted of an accepted clock, with which the play may end.
+    fn take(&mut self, wanted: &Wanted, shown: &[Outputs]) -> io::Result<Option<End>> {
+        match *wanted {
+            Wanted::Outputs => self.print(shown).map(|()| None),
+            Wanted::Match { slice } => {
+                Ok(shown[slice].pd.then_some(End::Match { clock: self.clocks }))
+            }
+        }
     }
 
     fn print(&mut self, shown: &[Outputs]) -> io::Result<()> {

@@ -2,7 +2,7 @@
 //! from where, and the rule it went by.
 
 use crate::bits::pattern;
-use crate::column::{height, lengths_fit, read_ports, Column};
+use crate::column::{height, lengths_fit, read_ports, slice_within, Column};
 use crate::control::AluMode;
 use crate::refusal::{Reason, Refusal};
 use crate::selection::{Place, Selection};
@@ -79,12 +79,10 @@ fn asked_unit(count: u64, lent: &LentWhy, slice: u64) -> Result<Unit, Refusal> {
     if !right {
         return Err(Refusal::whole(Reason::Length));
     }
-    if slice >= count {
-        return Err(Refusal::whole(Reason::Slice));
-    }
+    let slice = slice_within(height, slice)?;
     let column = Column::found(lent.attributes, lent.registers)?;
     let shown = column.settled(&read_ports(lent.ports)?)?;
-    Ok(shown[slice as usize].unit)
+    Ok(shown[slice].unit)
 }
 
 /// Values, then places, then what the unit did with them.

@@ -2,7 +2,7 @@
 
 mod played;
 
-use played::played;
+use played::{played, played_unread};
 
 const N1: &str = "N\t1\n";
 const A0: &str = "A\t0\t0\t0\t0\t0\t0\t0\t0\t0\t0\t0\t0\t0\t0\t0\t0\t0\t0\t0\t0\t0\n";
@@ -45,26 +45,11 @@ fn line_length() {
     }
 }
 
-/// A stream that must not be read past its given bytes.
-struct Fenced<'a>(&'a [u8]);
-
-impl std::io::Read for Fenced<'_> {
-    fn read(&mut self, buffer: &mut [u8]) -> std::io::Result<usize> {
-        assert!(!self.0.is_empty(), "read past the byte that decides");
-        self.0.read(buffer)
-    }
-}
-
 #[test]
 fn refusals_come_as_soon_as_they_can() {
-    let play = |bytes: &[u8]| {
-        let mut printed = Vec::new();
-        second::listing::play(std::io::BufReader::new(Fenced(bytes)), &mut printed).unwrap();
-        String::from_utf8(printed).unwrap()
-    };
-    assert_eq!(play(&[b'x'; 513]), "R\t12\t0\t1\n");
-    assert_eq!(play(b"N\t25\n"), "R\t1\t0\t0\n");
-    assert_eq!(play(b"N\t01\n"), "R\t12\t0\t1\n");
+    assert_eq!(played_unread([b'x'; 513]), "R\t12\t0\t1\n");
+    assert_eq!(played_unread("N\t25\n"), "R\t1\t0\t0\n");
+    assert_eq!(played_unread("N\t01\n"), "R\t12\t0\t1\n");
 }
 
 #[test]
@@ -115,7 +100,7 @@ fn numbers_as_text() {
 #[test]
 fn tags_as_text() {
     for bad in
-        ["", "\n", "n\t1\n", "NN\t1\n", "N1\n", "N\n", "N\t1\t1\n", "\t1\n", "\u{feff}N\t1\n"]
+        ["", "\n", "n\t1\n", "NN\t1\n", "N1\n", "N\n", "N\t1\t0\t0\n", "\t1\n", "\u{feff}N\t1\n"]
     {
         assert_eq!(played(bad), "R\t12\t0\t1\n", "{bad:?}");
     }

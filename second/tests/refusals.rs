@@ -1,6 +1,6 @@
 //! A test or more for each number from 0 to 12, 12 through a listing and all others
-//! through the calls; 13 is `why`'s alone and 14 that of eight terms, and both stand with
-//! their tests.
+//! through the calls; 13 is that of `why` and of the first match, 14 that of eight terms,
+//! and both stand with their tests.
 
 mod one_slice;
 

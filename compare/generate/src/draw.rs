@@ -66,6 +66,12 @@ pub fn detector(random: &mut Random) -> (u64, u64) {
     (pattern, mask)
 }
 
+/// A pattern, and a mask that leaves so few bits to compare that matches are common.
+pub fn common_match(random: &mut Random) -> (u64, u64) {
+    let compared = (0..random.below(8)).fold(0, |bits, _| bits | 1 << random.below(48));
+    (random.word() & ones(48), ones(48) ^ compared)
+}
+
 /// The controls a slice may have: all OPMODEs, those that take the product
 /// (or all again, if it has none), those that go with a logic mode, those that
 /// do not hide a carry, and so on.

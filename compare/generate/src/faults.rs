@@ -168,6 +168,14 @@ impl Fault {
         }
     }
 
+    /// Puts the fault into a slice of a column whose attributes it has shaped.
+    pub fn put(&self, column: &mut Column, clock: usize, slice: usize) {
+        if let Some(before) = clock.checked_sub(1) {
+            self.prepare(&mut column.clocks[before][slice]);
+        }
+        self.strike(&mut column.clocks[clock][slice]);
+    }
+
     /// Puts straight into a slice's registers what must stand there.
     pub fn store(&self, registers: &mut [u64]) {
         for (port, value) in &self.before {

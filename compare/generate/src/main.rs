@@ -8,6 +8,7 @@ mod carry_oracle;
 mod columns;
 mod draw;
 mod faults;
+mod match_oracle;
 mod oracle;
 mod packed_calls;
 mod packed_oracle;
@@ -19,6 +20,7 @@ mod seen;
 mod seen_carry;
 mod seen_flags;
 mod seen_lanes;
+mod seen_match;
 mod seen_packed;
 mod seen_why;
 mod seen_why_refused;
@@ -28,6 +30,8 @@ mod sweep_carry;
 mod sweep_detector;
 mod sweep_edges;
 mod sweep_lanes;
+mod sweep_match;
+mod sweep_match_text;
 mod sweep_numbers;
 mod sweep_refusals;
 mod sweep_settings;
@@ -59,6 +63,8 @@ const USAGE: &str = "usage: generate listings SEED COUNT DIRECTORY
 /// Writes the sweeps and then so many random listings.
 fn listings(seed: u64, count: u64, directory: &Path) -> io::Result<()> {
     let mut random = Random::new(seed);
+    // Draws what watches a slice, so that other listings are the same as without.
+    let mut watches = Random::new(!seed);
     let mut book = Book::open(directory, seed)?;
     sweep_refusals::write(&mut book, &mut random)?;
     sweep_settings::write(&mut book, &mut random)?;
@@ -70,8 +76,10 @@ fn listings(seed: u64, count: u64, directory: &Path) -> io::Result<()> {
     sweep_carry::write(&mut book, &mut random)?;
     wide_sums::write(&mut book, &mut random)?;
     sweep_text::write(&mut book, &mut random)?;
+    sweep_match::write(&mut book, &mut watches)?;
+    sweep_match_text::write(&mut book, &mut watches)?;
     let swept = book.count();
-    columns::write(&mut book, &mut random, count)?;
+    columns::write(&mut book, &mut random, watches, count)?;
     println!("seed {seed}: {swept} listings swept, {count} random");
     book.close()
 }

@@ -7,7 +7,7 @@ use crate::random::Random;
 use crate::words::*;
 
 /// P takes C, or P takes P and C.
-const LOAD: u64 = 3 << 2;
+const LOAD: u64 = C_ALONE;
 const ADD: u64 = 2 << 4 | 3 << 2;
 
 pub fn write(book: &mut Book, random: &mut Random) -> io::Result<()> {

@@ -23,16 +23,16 @@ pub fn write(book: &mut Book, random: &mut Random) -> io::Result<()> {
 }
 
 /// The clocks that have run when the line of this index is read.
-fn clocks_before(column: &Column, index: usize) -> usize {
+pub fn clocks_before(column: &Column, index: usize) -> usize {
     let height = column.attributes.len();
     index.saturating_sub(1 + height) / height
 }
 
 /// How a line is spoiled: what sort it is, and what it becomes.
-type Spoiled = (&'static str, Vec<u8>);
+pub type Spoiled = (&'static str, Vec<u8>);
 
 /// All sorts of spoiled lines; `line` comes without its newline.
-fn sorts(line: &[u8]) -> Vec<Spoiled> {
+pub fn sorts(line: &[u8]) -> Vec<Spoiled> {
     let text = String::from_utf8_lossy(line).into_owned();
     let with = |changed: String| (changed + "\n").into_bytes();
     let last = text.rfind('\t').unwrap();
@@ -99,10 +99,10 @@ fn number_sorts(head: &str, number: &str) -> Vec<(&'static str, String)> {
     ]
 }
 
-/// Fewer numbers than a line may have, and more; an `A` line has two counts.
+/// Fewer numbers than a line may have, and more; `N` and `A` lines have two counts.
 fn count_sorts(line: &[u8]) -> Vec<Spoiled> {
     let (fewest, most) = match line[0] {
-        b'N' => (1, 1),
+        b'N' => (1, 2),
         b'A' => (SHORT_A_LINE, SHORT_A_LINE + 1),
         _ => (11, 11),
     };
@@ -269,7 +269,8 @@ fn every_byte(book: &mut Book) -> io::Result<()> {
     bytes_of(book, &short.concat(), end - 6..=end)
 }
 
-fn bytes_of(book: &mut Book, text: &[u8], places: RangeInclusive<usize>) -> io::Result<()> {
+/// The same at some places of a text.
+pub fn bytes_of(book: &mut Book, text: &[u8], places: RangeInclusive<usize>) -> io::Result<()> {
     for place in places {
         book.text("cut at each byte", &text[..place], "")?;
         let (head, tail) = text.split_at(place);

@@ -6,9 +6,11 @@ use std::io;
 use std::path::Path;
 
 use crate::book::{EXPECTED, LISTINGS};
+use crate::match_oracle::{accepted, allowed, check, last_line, watched};
 use crate::oracle::Controls;
 use crate::seen::Seen;
 use crate::seen_lanes::{cause, CAUSES};
+use crate::seen_match::{SeenMatches, Watcher};
 use crate::table::Table;
 use crate::words::*;
 
@@ -16,6 +18,7 @@ use crate::words::*;
 pub struct Tally {
     table: Table,
     seen: Seen,
+    matches: SeenMatches,
     endings: usize,
     by_slice: HashMap<u64, usize>,
     by_line: usize,
@@ -29,6 +32,7 @@ pub struct Tally {
     slice_clocks: u64,
     unexpected: u64,
     wrong_outputs: u64,
+    wrong_matches: u64,
 }
 
 /// Refusals that a slice is to blame for.
@@ -49,13 +53,26 @@ pub fn tally(directory: &Path, answers: &Path) -> io::Result<bool> {
         "listings with another PREADDWRAP, carry or wide sum than the oracle's: {}",
         tally.wrong_outputs
     );
-    Ok(unmet == 0 && tally.unexpected == 0 && tally.wrong_outputs == 0)
+    println!("answers to listings that watch, other than they must be: {}", tally.wrong_matches);
+    Ok(unmet == 0 && tally.wrong() == 0)
 }
 
-/// The name, the kind, the aim and the ending that a line of expectations gives.
-pub fn fields(line: &str) -> [&str; 4] {
-    let fields: Vec<&str> = line.split('\t').collect();
-    fields.try_into().expect("four fields")
+/// What a line of expectations says of a listing.
+pub struct Expected<'a> {
+    pub name: &'a str,
+    kind: &'a str,
+    aim: &'a str,
+    ending: &'a str,
+    /// The listing that is the same but watches nothing, if there is one.
+    pub whole: &'a str,
+}
+
+impl<'a> Expected<'a> {
+    pub fn of(line: &'a str) -> Expected<'a> {
+        let fields: Vec<&str> = line.split('\t').collect();
+        let [name, kind, aim, ending, whole] = fields.try_into().expect("five fields");
+        Expected { name, kind, aim, ending, whole }
+    }
 }
 
 impl Tally {
@@ -74,10 +91,12 @@ impl Tally {
         let a_line = table.group("A lines that ran, by numbers", [21, 22]);
         let a_lines = table.group("A lines of a column that ran", ["21 alone", "22 alone", "both"]);
         let seen = Seen::new(&mut table);
+        let matches = SeenMatches::new(&mut table);
         let aims = table.group("aims met", [] as [&str; 0]);
         Tally {
             table,
             seen,
+            matches,
             endings,
             by_slice,
             by_line,
@@ -91,19 +110,24 @@ impl Tally {
             slice_clocks: 0,
             unexpected: 0,
             wrong_outputs: 0,
+            wrong_matches: 0,
         }
     }
 
     /// Counts what a line of expectations names. A listing that a part leaves out is not there; its
     /// aim has to be met by another one all the same.
     pub fn line(&mut self, directory: &Path, answers: &Path, line: &str) -> io::Result<()> {
-        let [name, kind, aim, ending] = fields(line);
-        self.aim(aim);
-        let path = directory.join(LISTINGS).join(name);
+        let expected = Expected::of(line);
+        self.aim(expected.aim);
+        let path = directory.join(LISTINGS).join(expected.name);
+        let answer = |name: &str| fs::read(answers.join(name)).map(text_of);
         if path.exists() {
-            let listing = fs::read(path)?;
-            let answer = String::from_utf8_lossy(&fs::read(answers.join(name))?).into_owned();
-            self.listing(name, kind, aim, ending, &listing, &answer);
+            let whole = match expected.whole {
+                "" => None,
+                name => Some(answer(name)?),
+            };
+            let listing = text_of(fs::read(path)?);
+            self.listing(&expected, &listing, &answer(expected.name)?, whole.as_deref());
         }
         Ok(())
     }
@@ -116,29 +140,27 @@ impl Tally {
 
     /// Rises with each item that is met first, and with each listing that the oracle disagrees with.
     pub fn news(&self) -> u64 {
-        self.table.items_met() as u64 + self.unexpected + self.wrong_outputs
+        self.table.items_met() as u64 + self.wrong()
     }
 
-    fn listing(
-        &mut self,
-        name: &str,
-        kind: &str,
-        aim: &str,
-        ending: &str,
-        listing: &[u8],
-        answer: &str,
-    ) {
+    fn wrong(&self) -> u64 {
+        self.unexpected + self.wrong_outputs + self.wrong_matches
+    }
+
+    fn listing(&mut self, expected: &Expected, text: &str, answer: &str, whole: Option<&str>) {
+        let Expected { name, kind, aim, ending, .. } = *expected;
         self.listings += 1;
-        let last = answer.lines().last().unwrap_or("").replace('\t', " ");
-        let clocks = match self.ending(&last) {
-            Some(clocks) => clocks,
-            None => {
-                println!("listing {name}: the answer has no end: {last:?}");
-                self.unexpected += 1;
-                return;
-            }
+        let last = last_line(answer);
+        let clocks = match watched(text) {
+            Some(watch) => self.watched(name, (watch, text), answer, whole),
+            None => self.ending(&last),
         };
-        if ending.is_empty() || ending == last {
+        let Some(clocks) = clocks else {
+            println!("listing {name}: the answer has no end: {last:?}");
+            self.unexpected += 1;
+            return;
+        };
+        if allowed(ending, &last) {
             let item = self.aim(aim);
             self.table.met(self.aims, item);
         } else {
@@ -148,13 +170,35 @@ impl Tally {
         let shown = answer.lines().filter(|line| line.starts_with('O')).count() as u64;
         self.clocks += clocks;
         self.slice_clocks += shown;
-        let text = String::from_utf8_lossy(listing);
         if kind == "column" && clocks > 0 {
-            self.column(name, &text, answer, clocks as usize);
+            self.column(name, text, answer, clocks as usize);
         }
         if let ("column", Some(slice)) = (kind, last.strip_prefix("R 3 0 ")) {
-            self.attribute(&settings(&text), slice.parse().unwrap());
+            self.attribute(&settings(text), slice.parse().unwrap());
         }
+    }
+
+    /// Counts how an answer ends to a listing that watches a slice. Holds it against the answer to
+    /// the same that watches nothing, if there is one, and gives the clocks that were accepted.
+    fn watched(
+        &mut self,
+        name: &str,
+        (watch, text): ([u64; 2], &str),
+        answer: &str,
+        whole: Option<&str>,
+    ) -> Option<u64> {
+        let (last, whole_last) = (last_line(answer), whole.map(last_line));
+        match check(watch, answer, whole) {
+            Ok(()) => {
+                let watcher = Watcher::of(watch, text);
+                self.matches.ends(&mut self.table, &watcher, &last, whole_last.as_deref());
+            }
+            Err(why) => {
+                println!("listing {name}: {why}");
+                self.wrong_matches += 1;
+            }
+        }
+        accepted(&last)
     }
 
     /// Counts how an answer ends and gives the clocks it says were run.
@@ -220,6 +264,11 @@ impl Tally {
             self.wrong_outputs += 1;
         }
     }
+}
+
+/// Bytes as text, whatever they are.
+fn text_of(bytes: Vec<u8>) -> String {
+    String::from_utf8_lossy(&bytes).into_owned()
 }
 
 /// The numbers of each line of one tag.

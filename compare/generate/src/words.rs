@@ -8,7 +8,8 @@ pub type Ports = [u64; 11];
 pub type Outputs = [u64; OUTPUT_WORDS];
 pub const REGISTER_WORDS: usize = 19;
 pub const OUTPUT_WORDS: usize = 7;
-/// The places of the pre-adder's mark and of the carry, the last of the outputs.
+/// The place of PATTERNDETECT, and those of the pre-adder's mark and of the carry, the last outputs.
+pub const PATTERNDETECT: usize = 1;
 pub const PREADDWRAP: usize = 5;
 pub const CARRY: usize = 6;
 
@@ -158,8 +159,9 @@ pub const RST_INMODE: u64 = 1 << 8;
 pub const RST_ALLCARRYIN: u64 = 1 << 9;
 pub const RST_ALL: u64 = 1023;
 
-/// The OPMODE that adds A:B and C.
+/// The OPMODE that adds A:B and C, and the one that takes C alone.
 pub const ADDS_AB_AND_C: u64 = 3 << 4 | 3;
+pub const C_ALONE: u64 = 3 << 2;
 
 /// All ones in so many bits.
 pub const fn ones(width: u32) -> u64 {
@@ -215,4 +217,10 @@ pub fn line(tag: char, words: &[u64]) -> Vec<u8> {
     }
     line.push('\n');
     line.into_bytes()
+}
+
+/// A listing's text with the slice that it watches (02, Ask 8) put behind its first line.
+pub fn watching(text: &[u8], slice: u64) -> Vec<u8> {
+    let end = text.iter().position(|byte| *byte == b'\n').unwrap_or(text.len());
+    [&text[..end], format!("\t{slice}").as_bytes(), &text[end..]].concat()
 }

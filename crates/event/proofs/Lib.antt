@@ -1,3 +1,4 @@
 pub mod Printing
+pub mod Matches
 pub mod Unique
 pub mod Values

@@ -1,2 +1,4 @@
 pub mod Letters
+pub mod Lines
 pub mod Events
+pub mod Showing

@@ -1,19 +1,22 @@
-// What there is to print of a step of a listing, and its bytes. The call takes whatever it is given.
+// What happened in a step of a listing, what there is to show of it, and its bytes. Both calls take whatever they are given.
 ghost use Prim.Native.Nat.{_+_, _*_, _≤_};
 ghost use lib.ListN.{length};
 ghost use Rattle.records.specs.Records.{outputWords};
-ghost use Rattle.column.specs.Column.{stacked};
 ghost use Rattle.text.specs.Printed.{Put};
-ghost use Rattle.event.specs.Events.{outputRoom, outputLine, bytesWithin};
+ghost use Rattle.event.specs.Lines.{outputLine, listed, printedLines};
+ghost use Rattle.event.specs.Events.{outputRoom, bytesWithin};
 
 mod letters;
+mod showing;
 
 use records::Outputs;
+pub use showing::shown;
 
-// A clock by its number (its outputs are lent); a refusal by number, clocks run and place; the clocks run.
+// A clock by its number (its outputs are lent); the first match by its clock; a refusal by number, clocks run and place; the clocks run.
 pub enum Event {
     Nothing,
     Clocked(u64),
+    Matched(u64),
     Refused(u64, u64, u64),
     Ended(u64),
 }
@@ -24,7 +27,7 @@ const OUTPUT_ROOM: usize = text::FIELD_ROOM * (Outputs::WORDS + 3);
 // The `O` lines of a clock, from slice 0 up.
 fn put_clock(clock: u64, count: usize, outputs: &[u64], out: &mut [u8], at: usize) -> usize
     requires { ⌜ (outputWords * count ≤ length (now outputs)) × (at + outputRoom * count ≤ length (now out)) ⌝ }
-    ensures { λ r. ⌜ Put at (stacked (outputLine clock (now (outputs .entry))) count) (now (out .entry)) r (now (out .exit)) ⌝ }
+    ensures { λ r. ⌜ Put at (printedLines (listed (outputLine clock (now (outputs .entry))) count)) (now (out .entry)) r (now (out .exit)) ⌝ }
 {
     let mut end = at;
     for k in 0..count {
@@ -57,6 +60,10 @@ pub fn put(event: Event, count: usize, outputs: &[u64], out: &mut [u8], at: usiz
                 return at;
             }
             put_clock(clock, count, outputs, out, at)
+        }
+        Event::Matched(clock) => {
+            let numbers = [clock];
+            text::put_line(letters::M, &numbers, &none, out, at)
         }
         Event::Refused(number, clocks, place) => {
             let numbers = [number, clocks, place];

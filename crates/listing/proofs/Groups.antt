@@ -24,7 +24,7 @@ use Rattle.listing.specs.Letters.{letterP}
 use Rattle.player.specs.Limits.{mostSlices}
 use Rattle.listing.specs.Steps.{counted, oneMore, goesOn, refusal, groupStep, settingsStep, clockStep}
 use Rattle.player.specs.Numbers.{working}
-use Rattle.listing.specs.Listing.{Left, leaving, settingsLine, settingsOf, clockOf, lineLeaves, portsLeave, turnOf, byteTurn}
+use Rattle.listing.specs.Listing.{Left, leaving, settingsLine, settingsOf, clockOf, clockedOutputs, lineLeaves, portsLeave, turnOf, byteTurn}
 use Rattle.listing.specs.Parts.{SettingsRead, SettingsTaken, PortsTaken, playing}
 use Rattle.listing.proofs.SettingsLine.{settings-length}
 
@@ -109,6 +109,6 @@ module _ (q : Player) (line at rs ps os : List ℕ) (r : Step) where
   pub ports-left : (rs′ ps′ os′ : List ℕ) → PortsTaken q line at rs ps os r rs′ ps′ os′ → leaving r at rs′ ps′ os′ ≡ lineLeaves Clocks q line at rs ps os
   ports-left rs′ ps′ os′ t =
       ap (λ (s : Step). leaving s at rs′ ps′ os′) (t .step)
-      ∙ ap₂ (λ (x y : List ℕ). leaving (groupStep q (isWell (lineOf letterP portWords line)) (clockStep q (clockOf q at rs ps′ os))) at x ps′ y)
+      ∙ ap₂ (λ (x y : List ℕ). leaving (groupStep q (isWell (lineOf letterP portWords line)) (clockStep q (clockOf q at rs ps′ os) (clockedOutputs q at rs ps′ os))) at x ps′ y)
       (t .registers) (t .outputs)
       ∙ ap (λ (l : List ℕ). portsLeave q (lineOf letterP portWords line) at rs l os) (t .ports)

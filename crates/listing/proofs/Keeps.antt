@@ -13,15 +13,20 @@ use Rattle.text.specs.Bytes.{newline, mostBytes}
 use Rattle.text.specs.Numbers.{Numbers, isWell, wordsOf, lineOf}
 use Rattle.word.proofs.Laws.{both-true}
 use Rattle.records.specs.Records.{attributeWords, portWords}
+use Rattle.event.specs.declared.Event.{Event}
+use Rattle.event.specs.declared.Event.the-variants.{Nothing, Clocked, Matched, Refused, Ended}
+use Rattle.event.specs.Showing.{shown}
 use Rattle.player.specs.declared.Phase.{Phase}
 use Rattle.player.specs.declared.Phase.the-variants.{Head, Settings, Clocks, Stopped}
+use Rattle.player.specs.declared.Shows.{Shows}
+use Rattle.player.specs.declared.Shows.the-variants.{Outputs, FirstMatch}
 use Rattle.player.specs.declared.Player.{Player}
 use Rattle.listing.specs.declared.steps.Step.{Step}
 use Rattle.listing.specs.Letters.{letterN, letterP}
 use Rattle.player.specs.Limits.{mostSlices, countBound}
-use Rattle.listing.specs.Steps.{counted, oneMore, named, goesOn, refusal, lastOfGroup, answered, headStep, groupStep, settingsStep, clockStep}
+use Rattle.listing.specs.Steps.{counted, oneMore, named, halted, goesOn, refusal, stopsAt, shownStep, lastOfGroup, answered, showsWithin, beginStep, headStep, groupStep, settingsStep, clockStep}
 use Rattle.player.specs.Numbers.{working}
-use Rattle.listing.specs.Listing.{settingsLine, Play, Turn, lineTurn, partTurn, lineLeaves, byteTurn, settingsOf, clockOf, placed}
+use Rattle.listing.specs.Listing.{settingsLine, Play, Turn, lineTurn, partTurn, lineLeaves, byteTurn, settingsOf, clockOf, clockedOutputs, placed}
 use Rattle.listing.specs.Parts.{Fair, Able}
 
 -- what holds of both ways of a test holds of the step
@@ -38,18 +43,37 @@ module _ (q : Player) (n : ℕ) (fair : Fair q) (clocks : q .clocks + suc n < co
   halts number place =
       record { fair = record { count = fair .count; given = omega arith; held = omega arith }; clocks = omega arith; lines = lines }
 
-  head-goes : (x : Numbers) → Goes n (headStep q x)
-  unfolding headStep
-  head-goes x =
-      let c = getD (wordsOf 1 x) 0 0 in
-      either (Goes n) (isWell x) _ _
-      (λ w.
-      either (Goes n) (countFits c) (goesOn (named q c)) (refusal q 1 0)
+  begin-goes : (count : ℕ) (shows : Shows) → Goes n (beginStep q count shows)
+  unfolding beginStep
+  begin-goes count shows =
+      either (Goes n) (countFits count) _ (refusal q 1 0)
       (λ e.
-      let few = leb-true c mostSlices (both-true (leb 1 c) (leb c mostSlices) e .1) in
-      record { fair = record { count = few; given = omega arith; held = fair .held }; clocks = omega arith; lines = lines })
-      (λ e. halts 1 0))
-      (λ w. halts 12 (q .lines))
+      let few = leb-true count mostSlices (both-true (leb 1 count) (leb count mostSlices) e .1) in
+      either (Goes n) (showsWithin shows count) (goesOn (named q count shows)) (refusal q 13 0)
+      (λ w. record { fair = record { count = few; given = omega arith; held = fair .held }; clocks = omega arith; lines = lines })
+      (λ w. halts 13 0))
+      (λ e. halts 1 0)
+
+  head-goes : (two one : Numbers) → Goes n (headStep q two one)
+  unfolding headStep
+  head-goes two one =
+      either (Goes n) (isWell two) _ _ (λ w. begin-goes (getD (wordsOf 2 two) 0 0) (FirstMatch (getD (wordsOf 2 two) 1 0)))
+      (λ w. either (Goes n) (isWell one) _ _ (λ v. begin-goes (getD (wordsOf 1 one) 0 0) Outputs) (λ v. halts 12 (q .lines)))
+
+  -- a step that can go on, however it is shown
+  shown-goes : (s : Step) (os : List ℕ) → Goes n s → Goes n (shownStep s os)
+  unfolding shownStep
+  shown-goes s os g = go (shown (s .player .shows) (s .event) os)
+    where
+      stays : Able (halted (s .player)) n
+      stays = record { fair = record { count = g .fair .count; given = omega arith; held = omega arith }; clocks = g .clocks; lines = g .lines }
+
+      go : (e : Event) → Able (stopsAt e (s .player)) n
+      go Nothing = g
+      go (Clocked clock) = g
+      go (Matched clock) = stays
+      go (Refused number clocks place) = g
+      go (Ended clocks) = g
 
   answered-goes : (a : Answer) (accepted : Step) → Goes n accepted → Goes n (answered q a accepted)
   unfolding answered
@@ -60,10 +84,11 @@ module _ (q : Player) (n : ℕ) (fair : Fair q) (clocks : q .clocks + suc n < co
       answered-goes a _
       (record { fair = record { count = fair .count; given = omega arith; held = fair .held }; clocks = omega arith; lines = lines })
 
-  clock-goes : (a : Answer) → Goes n (clockStep q a)
-  clock-goes a =
+  clock-goes : (a : Answer) (os : List ℕ) → Goes n (clockStep q a os)
+  clock-goes a os =
       answered-goes a _
-      (record { fair = record { count = fair .count; given = omega arith; held = fair .held }; clocks = omega arith; lines = lines })
+      (shown-goes _ os
+      (record { fair = record { count = fair .count; given = omega arith; held = fair .held }; clocks = omega arith; lines = lines }))
 
   group-goes : (well : Bool) (whole : Step) → Goes n whole → Goes n (groupStep q well whole)
   unfolding groupStep
@@ -78,11 +103,12 @@ module _ (q : Player) (n : ℕ) (fair : Fair q) (clocks : q .clocks + suc n < co
       (λ w. halts 12 (q .lines))
 
   line-goes : (f : Phase) (line at rs ps os : List ℕ) → Goes n (lineLeaves f q line at rs ps os .step)
-  line-goes Head line at rs ps os = head-goes (lineOf letterN 1 line)
+  line-goes Head line at rs ps os = head-goes (lineOf letterN 2 line) (lineOf letterN 1 line)
   line-goes Settings line at rs ps os =
       group-goes (isWell (settingsLine line)) _ (settings-go (settingsOf q (placed attributeWords q (settingsLine line) at)))
   line-goes Clocks line at rs ps os =
-      group-goes (isWell (lineOf letterP portWords line)) _ (clock-goes (clockOf q at rs (placed portWords q (lineOf letterP portWords line) ps) os))
+      let ps′ = placed portWords q (lineOf letterP portWords line) ps in
+      group-goes (isWell (lineOf letterP portWords line)) _ (clock-goes (clockOf q at rs ps′ os) (clockedOutputs q at rs ps′ os))
   line-goes Stopped line at rs ps os = record { fair = fair; clocks = omega arith; lines = lines }
 
 -- a byte takes at most one of the lines and clocks that there is room for

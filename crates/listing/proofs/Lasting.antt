@@ -27,7 +27,7 @@ use Rattle.player.specs.Limits.{mostSlices, countBound}
 use Rattle.listing.specs.Limits.{clockRoom}
 use Rattle.listing.specs.Steps.{counted, lastOfGroup}
 use Rattle.player.specs.Numbers.{working}
-use Rattle.listing.specs.Listing.{settingsLine, Play, Turn, Left, placed, clockOf, clockedRegisters, clockedOutputs, lineLeaves, lineTurn, partTurn, byteTurn, start}
+use Rattle.listing.specs.Listing.{settingsLine, Play, Turn, Left, placed, clockOf, clockedRegisters, clockedOutputs, lineLeaves, lineTurn, partTurn, turnBytes, byteTurn, start}
 use Rattle.player.specs.Fitting.{fits as fitsBy}
 use Rattle.listing.specs.Calls.{playOf, lentOf, fits, nothing, further, played}
 use Rattle.listing.specs.Parts.{Fair, Able, Words, Frames}
@@ -143,9 +143,9 @@ pub piece-lasts : (room : ℕ) (p : Play) (piece : List ℕ) (n : ℕ) → lengt
 piece-lasts room p [] n h g = simp unary-clauses g
 piece-lasts room p (b ∷ bs) zero h g = let z : ⊥ = omega arith in absurd z
 piece-lasts room p (b ∷ bs) (suc n) h g =
-    go (leb clockRoom room) (piece-lasts (room - length (byteTurn p b .says)) (byteTurn p b .play) bs n (omega arith) (byte-lasts p b n g))
+    go (leb clockRoom room) (piece-lasts (room - length (turnBytes (byteTurn p b))) (byteTurn p b .play) bs n (omega arith) (byte-lasts p b n g))
   where
-    go : (r : Bool) → (let o = played (room - length (byteTurn p b .says)) (byteTurn p b .play) bs in
+    go : (r : Bool) → (let o = played (room - length (turnBytes (byteTurn p b))) (byteTurn p b .play) bs in
         Good (o .play) (n - o .used)
         → Good (cond r (further (byteTurn p b) o) (nothing p) .play) (suc n - cond r (further (byteTurn p b) o) (nothing p) .used))
     go true f = simp unary-clauses f

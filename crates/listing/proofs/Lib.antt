@@ -1,5 +1,6 @@
 pub mod Printing
 pub mod SettingsLine
+pub mod Stops
 pub mod Groups
 pub mod Keeps
 pub mod Clocks
@@ -11,5 +12,9 @@ pub mod Ending
 pub mod Lasting
 pub mod Whole
 pub mod Reading
+pub mod Found
+pub mod Watching
+pub mod FirstMatch
 pub mod Unique
 pub mod Values
+pub mod MatchValues

@@ -12,9 +12,10 @@ use lib.Seq.{drop-cons, drop-length, drop-drop, take-at, drop-append-add, length
 use borrow.Author.Tests.{le-leb, lt-leb}
 use Rattle.text.specs.Bytes.{newline, mostBytes}
 use Rattle.text.specs.Printed.{pasted, Put}
+use Rattle.event.specs.declared.Event.the-variants.{Nothing}
 use Rattle.listing.specs.Limits.{clockRoom}
 use Rattle.player.specs.Numbers.{working}
-use Rattle.listing.specs.Listing.{Play, Turn, byteTurn}
+use Rattle.listing.specs.Listing.{Play, Turn, turnBytes, byteTurn}
 use Rattle.listing.specs.Calls.{Outcome, nothing, further, played}
 use Rattle.listing.specs.Parts.{Gathered, oneMoreByte, gathering, Stretch, joining, stretchOf}
 
@@ -69,6 +70,7 @@ holding p held line = record {
     clocks = p .player .clocks;
     lines = p .player .lines;
     held = held;
+    shows = p .player .shows;
   };
   attributes = p .attributes;
   registers = p .registers;
@@ -88,7 +90,7 @@ abbrev with-byte : Play → (b : ℕ) → Play
 with-byte p b = stretched (record { count = 1; line = set (p .line) (p .player .held) b }) p
 
 join-turn : (p : Play) (b : ℕ) → working (p .player .phase) ≡ true → eqb b newline ≡ false → eqb (p .player .held) mostBytes ≡ false
-    → byteTurn p b ≡ record { play = with-byte p b; says = [] }
+    → byteTurn p b ≡ record { play = with-byte p b; event = Nothing }
 unfolding byteTurn
 join-turn p b works other room = rw (works, other, room)
 
@@ -105,7 +107,7 @@ stretch-played room p [] h works = stretch-zero room p []
 stretch-played room p (b ∷ bs) h works =
     go (eqb b newline) (eqb (p .player .held) mostBytes) refl refl (stretch-played room (with-byte p b) bs h works)
   where
-    after : (o : Outcome) (n : ℕ) → further (record { play = with-byte p b; says = [] }) (following n [] o) ≡ following (suc n) [] o
+    after : (o : Outcome) (n : ℕ) → further (record { play = with-byte p b; event = Nothing }) (following n [] o) ≡ following (suc n) [] o
     after o n =
         let k : suc (n + o .used) ≡ suc n + o .used = omega arith in
         ap (λ (used : ℕ). record { used = used; play = o .play; says = o .says }) k
@@ -120,15 +122,15 @@ stretch-played room p (b ∷ bs) h works =
     go false false e f rest =
         let more = gathering (p .player .held + 1) (set (p .line) (p .player .held) b) bs in
         let all : room - 0 ≡ room = omega arith in
-        let one : played room p (b ∷ bs) ≡ further (record { play = with-byte p b; says = [] }) (played room (with-byte p b) bs) =
+        let one : played room p (b ∷ bs) ≡ further (record { play = with-byte p b; event = Nothing }) (played room (with-byte p b) bs) =
         rw (le-leb clockRoom room h, join-turn p b works e f, all) in
         one
-        ∙ ap (further (record { play = with-byte p b; says = [] })) rest
+        ∙ ap (further (record { play = with-byte p b; event = Nothing })) rest
         ∙ after (played room (stretched more (with-byte p b)) (drop (more .count) bs)) (more .count)
         ∙ ap (λ (x : Play). following (suc (more .count)) [] (played room x (drop (more .count) bs))) (join-stretch p b more)
 
 -- after a refusal a byte does nothing, and prints nothing
-pub stopped-turn : (p : Play) (b : ℕ) → working (p .player .phase) ≡ false → byteTurn p b ≡ record { play = p; says = [] }
+pub stopped-turn : (p : Play) (b : ℕ) → working (p .player .phase) ≡ false → byteTurn p b ≡ record { play = p; event = Nothing }
 unfolding byteTurn
 stopped-turn p b stopped = rw stopped
 
@@ -137,9 +139,9 @@ stopped-played : (room : ℕ) (p : Play) (text : List ℕ) → clockRoom ≤ roo
 stopped-played room p [] h stopped = refl
 stopped-played room p (b ∷ bs) h stopped =
     let all : room - 0 ≡ room = omega arith in
-    let one : played room p (b ∷ bs) ≡ further (record { play = p; says = [] }) (played room p bs) =
+    let one : played room p (b ∷ bs) ≡ further (record { play = p; event = Nothing }) (played room p bs) =
     rw (le-leb clockRoom room h, stopped-turn p b stopped, all) in
-    one ∙ ap (further (record { play = p; says = [] })) (stopped-played room p bs h stopped)
+    one ∙ ap (further (record { play = p; event = Nothing })) (stopped-played room p bs h stopped)
 
 -- a stretch of bytes is what byte after byte leaves, and prints nothing
 pub reach-played : (room : ℕ) (p : Play) (text : List ℕ) → clockRoom ≤ room
@@ -179,17 +181,17 @@ none-yet p piece out =
 module _ (p₀ : Play) (piece out₀ : List ℕ) (p : Play) (used made : ℕ) (out : List ℕ) (s : SoFar p₀ piece out₀ p used made out) where
   -- one byte more
   pub one-byte : used < length piece → clockRoom ≤ length out - made → (made′ : ℕ) (out′ : List ℕ)
-      → length (byteTurn p (getD piece used 0) .says) ≤ clockRoom
-      → Put made (byteTurn p (getD piece used 0) .says) out made′ out′ → length out′ ≡ length out
+      → length (turnBytes (byteTurn p (getD piece used 0))) ≤ clockRoom
+      → Put made (turnBytes (byteTurn p (getD piece used 0))) out made′ out′ → length out′ ≡ length out
       → SoFar p₀ piece out₀ (byteTurn p (getD piece used 0) .play) (used + 1) made′ out′
   one-byte h room made′ out′ short put kept =
       let t = byteTurn p (getD piece used 0) in
-      let fits : made + length (t .says) ≤ length out = omega (arith, s .room) in
-      let e : made′ ≡ made + length (t .says) = put .ends in
-      let bytes : take made′ out′ ≡ take made out ++ t .says = rw (e, put .bytes) (take-pasted made (t .says) out fits) in
-      let later : drop (made + length (t .says)) out ≡ drop (made + length (t .says)) out₀ =
-      sym (drop-drop (length (t .says)) made out) ∙ ap (drop (length (t .says))) (s .rest) ∙ drop-drop (length (t .says)) made out₀ in
-      let left : length out₀ - made - length (t .says) ≡ length out₀ - made′ = omega arith in
+      let fits : made + length (turnBytes t) ≤ length out = omega (arith, s .room) in
+      let e : made′ ≡ made + length (turnBytes t) = put .ends in
+      let bytes : take made′ out′ ≡ take made out ++ turnBytes t = rw (e, put .bytes) (take-pasted made (turnBytes t) out fits) in
+      let later : drop (made + length (turnBytes t)) out ≡ drop (made + length (turnBytes t)) out₀ =
+      sym (drop-drop (length (turnBytes t)) made out) ∙ ap (drop (length (turnBytes t))) (s .rest) ∙ drop-drop (length (turnBytes t)) made out₀ in
+      let left : length out₀ - made - length (turnBytes t) ≡ length out₀ - made′ = omega arith in
       let next : played (length out₀ - made) p (drop used piece) ≡ further t (played (length out₀ - made′) (t .play) (drop (used + 1) piece)) =
       rw (drop-cons piece used 0 h, le-leb clockRoom (length out₀ - made) (omega (arith, s .long)))
       (ap₂ (λ (k i : ℕ). further t (played k (t .play) (drop i piece))) left (sym (add-one used))) in
@@ -197,17 +199,17 @@ module _ (p₀ : Play) (piece out₀ : List ℕ) (p : Play) (used made : ℕ) (o
         within = omega arith;
         room = omega (arith, kept, e);
         long = kept ∙ s .long;
-        rest = ap₂ drop e (put .bytes) ∙ drop-pasted made (t .says) out fits ∙ later ∙ ap (λ (k : ℕ). drop k out₀) (sym e);
+        rest = ap₂ drop e (put .bytes) ∙ drop-pasted made (turnBytes t) out fits ∙ later ∙ ap (λ (k : ℕ). drop k out₀) (sym e);
         whole =
-            more (take made out) (t .says) (take made′ out′) bytes (played (length out₀ - made′) (t .play) (drop (used + 1) piece)) t refl
+            more (take made out) (turnBytes t) (take made′ out′) bytes (played (length out₀ - made′) (t .play) (drop (used + 1) piece)) t refl
             ∙ ap (following used (take made out)) (sym next)
             ∙ s .whole;
       }
     where
-      more : (xs bs cs : List ℕ) → cs ≡ xs ++ bs → (o : Outcome) (t : Turn) → t .says ≡ bs → following (used + 1) cs o ≡ following used xs (further t o)
+      more : (xs bs cs : List ℕ) → cs ≡ xs ++ bs → (o : Outcome) (t : Turn) → turnBytes t ≡ bs → following (used + 1) cs o ≡ following used xs (further t o)
       more xs bs cs e o t f =
           let k : used + 1 + o .used ≡ used + suc (o .used) = omega arith in
-          let l : cs ++ o .says ≡ xs ++ (t .says ++ o .says) = rw (e, f) (append-assoc xs bs (o .says)) in
+          let l : cs ++ o .says ≡ xs ++ (turnBytes t ++ o .says) = rw (e, f) (append-assoc xs bs (o .says)) in
           ap₂ (λ (n : ℕ) (bytes : List ℕ). record { used = n; play = o .play; says = bytes }) k l
 
   -- a stretch of bytes more

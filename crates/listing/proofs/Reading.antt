@@ -17,7 +17,7 @@ use Rattle.listing.specs.declared.Played.{Played}
 use Rattle.player.specs.Limits.{mostSlices, countBound}
 use Rattle.listing.specs.Limits.{clockRoom}
 use Rattle.player.specs.Numbers.{working}
-use Rattle.listing.specs.Listing.{Play, Turn, Left, lineLeaves, turnOf, stepping, byteTurn, lineTurn, partTurn, start, listing}
+use Rattle.listing.specs.Listing.{Play, Turn, Left, lineLeaves, turnOf, stepping, turnBytes, byteTurn, lineTurn, partTurn, start, listing}
 use Rattle.listing.specs.Steps.{counted, longer, goesOn, refusal, endOf}
 use Rattle.player.specs.Numbers.{playerNumbers, playerOf}
 use Rattle.listing.specs.Calls.{Lent, playOf, lentOf, fits, Outcome, nothing, further, played, lentAfter, goesAfter, outcomeOf, PiecePlayed, endBytes, Finished}
@@ -41,7 +41,7 @@ takes-one {piece} {l} {out} d fit some room = rw (d .used, fit) (some-taken (len
 
 -- what a byte prints has room in a clock's
 abbrev Short : Turn → Type 0
-Short t = t .play .player .count ≤ mostSlices → length (t .says) ≤ clockRoom
+Short t = t .play .player .count ≤ mostSlices → length (turnBytes t) ≤ clockRoom
 
 told : (l : Left) (line : List ℕ) → Short (turnOf l line)
 told l line few = event-length (l .step .event) (l .step .player .count) (l .outputs) few
@@ -67,22 +67,22 @@ says-fit room p [] n h g = omega arith
 says-fit room p (b ∷ bs) zero h g = let z : ⊥ = omega arith in absurd z
 says-fit room p (b ∷ bs) (suc n) h g =
     go (leb clockRoom room) refl
-    (says-fit (room - length (byteTurn p b .says)) (byteTurn p b .play) bs n (omega arith) (byte-lasts p b n g))
+    (says-fit (room - length (turnBytes (byteTurn p b))) (byteTurn p b .play) bs n (omega arith) (byte-lasts p b n g))
   where
-    go : (r : Bool) → leb clockRoom room ≡ r → (let o = played (room - length (byteTurn p b .says)) (byteTurn p b .play) bs in
-        length (o .says) ≤ room - length (byteTurn p b .says) → length (cond r (further (byteTurn p b) o) (nothing p) .says) ≤ room)
+    go : (r : Bool) → leb clockRoom room ≡ r → (let o = played (room - length (turnBytes (byteTurn p b))) (byteTurn p b .play) bs in
+        length (o .says) ≤ room - length (turnBytes (byteTurn p b)) → length (cond r (further (byteTurn p b) o) (nothing p) .says) ≤ room)
     go true e rest =
         let short = turn-length p b (byte-lasts p b n g .able .fair .count) in
-        let o = played (room - length (byteTurn p b .says)) (byteTurn p b .play) bs in
-        rw (length-append (byteTurn p b .says) (o .says)) (omega (arith, short, leb-true clockRoom room e))
+        let o = played (room - length (turnBytes (byteTurn p b))) (byteTurn p b .play) bs in
+        rw (length-append (turnBytes (byteTurn p b)) (o .says)) (omega (arith, short, leb-true clockRoom room e))
     go false e rest = omega arith
 
 -- no more bytes are taken than there are
 used-within : (room : ℕ) (p : Play) (piece : List ℕ) → played room p piece .used ≤ length piece
 used-within room p [] = omega arith
-used-within room p (b ∷ bs) = go (leb clockRoom room) (used-within (room - length (byteTurn p b .says)) (byteTurn p b .play) bs)
+used-within room p (b ∷ bs) = go (leb clockRoom room) (used-within (room - length (turnBytes (byteTurn p b))) (byteTurn p b .play) bs)
   where
-    go : (r : Bool) → (let o = played (room - length (byteTurn p b .says)) (byteTurn p b .play) bs in
+    go : (r : Bool) → (let o = played (room - length (turnBytes (byteTurn p b))) (byteTurn p b .play) bs in
         o .used ≤ length bs → cond r (further (byteTurn p b) o) (nothing p) .used ≤ suc (length bs))
     go true h = omega arith
     go false h = omega arith

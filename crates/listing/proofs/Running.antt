@@ -13,7 +13,7 @@ use Rattle.listing.specs.declared.machine.Reach.{Reach}
 use Rattle.player.specs.Limits.{mostSlices}
 use Rattle.listing.specs.Limits.{clockRoom}
 use Rattle.player.specs.Numbers.{working}
-use Rattle.listing.specs.Listing.{Play, Turn, leaving, turnOf, byteTurn}
+use Rattle.listing.specs.Listing.{Play, Turn, leaving, turnOf, turnBytes, byteTurn}
 use Rattle.listing.specs.Calls.{Outcome, played}
 use Rattle.listing.specs.Parts.{Able, Frames, playing, gathering, joining, stretchOf, Reaches, Ran}
 use Rattle.listing.proofs.Printing.{event-length}
@@ -53,7 +53,7 @@ module _ (p₀ : Play) (piece out₀ : List ℕ) (q : Player) (at rs ps os line 
       → Put made (bytesOf (r .event) (r .player .count) os′) out made′ out′ → length out′ ≡ length out
       → SoFar p₀ piece out₀ (playing (r .player) at′ rs′ ps′ os′ line′) (used + 1) made′ out′
   next-so-far r at′ rs′ ps′ os′ line′ turned few h room made′ out′ put kept =
-      let says : bytesOf (r .event) (r .player .count) os′ ≡ byteTurn (playing q at rs ps os line) (getD piece used 0) .says = ap (λ (t : Turn). t .says) turned in
+      let says : bytesOf (r .event) (r .player .count) os′ ≡ turnBytes (byteTurn (playing q at rs ps os line) (getD piece used 0)) = ap turnBytes turned in
       subst (λ (p : Play). SoFar p₀ piece out₀ p (used + 1) made′ out′) (sym (ap (λ (t : Turn). t .play) turned))
       (one-byte p₀ piece out₀ (playing q at rs ps os line) used made out s h room made′ out′
       (subst (λ (bs : List ℕ). length bs ≤ clockRoom) says (event-length (r .event) (r .player .count) os′ few))

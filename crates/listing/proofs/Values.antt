@@ -8,8 +8,9 @@ use Rattle.records.specs.Records.{exceeds}
 use Rattle.text.specs.Printed.{printed, decimalOf}
 use Rattle.text.specs.Numbers.{lineOf}
 use Rattle.event.specs.declared.Event.the-variants.{Clocked}
-use Rattle.event.specs.Letters.{letterO, letterR, letterE}
-use Rattle.event.specs.Events.{outputLine, bytesWithin}
+use Rattle.event.specs.Letters.{letterO, letterM, letterR, letterE}
+use Rattle.event.specs.Events.{bytesWithin}
+use Rattle.event.specs.Showing.{detects, shown}
 use Rattle.column.specs.declared.Answer.the-variants.{Accepted}
 use Rattle.column.specs.Column.{columnNext, columnShown, shownAt, nextAt, cascadeInto}
 use Rattle.column.specs.Refusals.{attributesAnswer, clockAnswer, rules, settings, lengthsFit as lengthsOfClock, fails, broken}
@@ -18,33 +19,34 @@ use Rattle.slice.specs.Slice.{controlsOf, selectsOf, sliceNext, nextOf, edge, s
 use Rattle.unit.specs.Unit.{unitResult, splitResult, carryOut, arithmetic, lanes, logicRows, wrappedSum, preAdder, product, load}
 use Rattle.unit.specs.Detector.{detected, unmasked}
 use Rattle.player.specs.declared.Phase.the-variants.{Head, Clocks}
+use Rattle.player.specs.declared.Shows.the-variants.{Outputs}
 use Rattle.player.specs.declared.Player.{Player}
 use Rattle.listing.specs.Letters.{letterN, letterA, letterP}
-use Rattle.listing.specs.Steps.{headStep, groupStep, answered, clockStep, endOf}
-use Rattle.listing.specs.Listing.{settingsLine, clockedRegisters, clockedOutputs, Play, start, byteTurn, endSays, listing}
+use Rattle.listing.specs.Steps.{headStep, beginStep, shownStep, groupStep, answered, clockStep, endOf}
+use Rattle.listing.specs.Listing.{settingsLine, clockedRegisters, clockedOutputs, Play, start, turnBytes, byteTurn, endSays, listing}
 use Rattle.player.specs.Fitting.{fits as fitsBy}
 use Rattle.listing.specs.Calls.{lending, playOf, played, lentAfter, goesAfter, outcomeOf, endBytes}
 
 -- ---- lines, printed as the output is: a letter, each number after a tab, and a newline
 
-abbrev n-line : (count : ℕ) → List ℕ
+abbrev pub n-line : (count : ℕ) → List ℕ
 n-line count = printed letterN (count ∷ [])
 
-abbrev a-line : (areg : ℕ) → List ℕ
+abbrev pub a-line : (areg : ℕ) → List ℕ
 a-line areg = printed letterA (areg ∷ replicate 20 0)
 
 -- of 22 numbers
 abbrev simd-line : (simd : ℕ) → List ℕ
 simd-line simd = printed letterA (replicate 21 0 ++ (simd ∷ []))
 
-abbrev p-line : (b c opmode : ℕ) → List ℕ
+abbrev pub p-line : (b c opmode : ℕ) → List ℕ
 p-line b c opmode = printed letterP (0 ∷ b ∷ c ∷ 0 ∷ opmode ∷ 0 ∷ 0 ∷ 0 ∷ 0 ∷ 0 ∷ 0 ∷ [])
 
-abbrev refused : (number clocks place : ℕ) → List ℕ
+abbrev pub refused : (number clocks place : ℕ) → List ℕ
 refused number clocks place = printed letterR (number ∷ clocks ∷ place ∷ [])
 
--- N, A, P, O, R, E
-letters : letterN ∷ letterA ∷ letterP ∷ letterO ∷ letterR ∷ letterE ∷ [] ≡ 78 ∷ 65 ∷ 80 ∷ 79 ∷ 82 ∷ 69 ∷ []
+-- N, A, P, O, M, R, E
+letters : letterN ∷ letterA ∷ letterP ∷ letterO ∷ letterM ∷ letterR ∷ letterE ∷ [] ≡ 78 ∷ 65 ∷ 80 ∷ 79 ∷ 77 ∷ 82 ∷ 69 ∷ []
 letters = refl
 
 -- ---- listings that end before a clock is run
@@ -83,7 +85,7 @@ pub record Unclocked : Type 0 where
   pub malformed-port-first : listing (n-line 2 ++ (a-line 0 ++ (a-line 0 ++ (p-line 0 0 1 ++ n-line 1)))) ≡ refused 12 0 5
 
 pub unclocked : Unclocked
-unfolding listing byteTurn headStep groupStep answered settingsLine lineOf endSays endOf printed decimalOf attributesAnswer fails broken exceeds offList
+unfolding listing byteTurn headStep beginStep groupStep answered settingsLine lineOf endSays endOf printed decimalOf attributesAnswer fails broken exceeds offList
 unclocked =
     record {
       no-text = refl;
@@ -123,24 +125,24 @@ pub record OneClock : Type 0 where
   pub port-over : listing (n-line 2 ++ (a-line 0 ++ (a-line 0 ++ (p-line 0 0 0 ++ p-line 262144 0 0)))) ≡ refused 5 0 1
 
 pub one-clock : OneClock
-unfolding listing byteTurn headStep groupStep answered settingsLine lineOf endSays endOf printed decimalOf clockedRegisters clockedOutputs outputLine attributesAnswer clockAnswer rules settings lengthsOfClock fails broken breaks exceeds columnNext columnShown shownAt nextAt cascadeInto offList badInmode badOpmode badAlumode badCarryinsel controlsOf selectsOf sliceNext nextOf edge load sliceOutputs sliceCascade outputsOfSettled cascadeOf sliceSettled settledOf settledCarry carryOut resultOf sliceOperands operandsOf productOf leftOf rightOf preAddedOf aSide dSide pathsOf splitResult unitResult lanes arithmetic logicRows wrappedSum preAdder product detected unmasked
+unfolding listing byteTurn headStep beginStep groupStep answered shownStep shown detects settingsLine lineOf endSays endOf printed decimalOf clockedRegisters clockedOutputs attributesAnswer clockAnswer rules settings lengthsOfClock fails broken breaks exceeds columnNext columnShown shownAt nextAt cascadeInto offList badInmode badOpmode badAlumode badCarryinsel controlsOf selectsOf sliceNext nextOf edge load sliceOutputs sliceCascade outputsOfSettled cascadeOf sliceSettled settledOf settledCarry carryOut resultOf sliceOperands operandsOf productOf leftOf rightOf preAddedOf aSide dSide pathsOf splitResult unitResult lanes arithmetic logicRows wrappedSum preAdder product detected unmasked
 one-clock = record { worked = refl; split = refl; refused-later = refl; port-over = refl }
 
 -- a player whose `P` lines are due
 abbrev player : (count given clocks lines held : ℕ) → Player
 player count given clocks lines held =
-    record { phase = Clocks; count = count; given = given; clocks = clocks; lines = lines; held = held }
+    record { phase = Clocks; count = count; given = given; clocks = clocks; lines = lines; held = held; shows = Outputs }
 
 -- an accepted clock is shown by its number, and counts
-clock-counts : clockStep (player 2 1 7 9 0) Accepted ≡ record { player = player 2 0 8 9 0; event = Clocked 7 }
-unfolding answered
+clock-counts : clockStep (player 2 1 7 9 0) Accepted [] ≡ record { player = player 2 0 8 9 0; event = Clocked 7 }
+unfolding answered shownStep shown
 clock-counts = refl
 
 -- ---- pieces, and what is lent
 
 abbrev begun : (held : ℕ) → Play
 begun held = record {
-  player = record { phase = Head; count = 0; given = 0; clocks = 0; lines = 0; held = held };
+  player = record { phase = Head; count = 0; given = 0; clocks = 0; lines = 0; held = held; shows = Outputs };
   attributes = [];
   registers = [];
   ports = [];
@@ -150,8 +152,8 @@ begun held = record {
 
 pub record Pieces : Type 0 where
   -- a line has 512 bytes, and its 513th is 12 as soon as it is read
-  pub byte-512 : byteTurn (begun 511) 78 .says ≡ []
-  pub byte-513 : byteTurn (begun 512) 78 .says ≡ refused 12 0 1
+  pub byte-512 : turnBytes (byteTurn (begun 511) 78) ≡ []
+  pub byte-513 : turnBytes (byteTurn (begun 512) 78) ≡ refused 12 0 1
   -- a byte is taken while 8,192 bytes are left; `R 1 0 0` takes 8 of them
   pub room : (played 8192 start (78 ∷ []) .used ≡ 1) × (played 8191 start (78 ∷ []) .used ≡ 0)
   pub room-left : (played 8200 start (n-line 25 ++ (88 ∷ [])) .used ≡ 6) × (played 8199 start (n-line 25 ++ (88 ∷ [])) .used ≡ 5)
@@ -160,19 +162,19 @@ pub record Pieces : Type 0 where
       (outcomeOf l (78 ∷ []) (0 ∷ []) .used ≡ 0) × (goesAfter l (78 ∷ []) (0 ∷ []) ≡ false) × (lentAfter l (78 ∷ []) (0 ∷ []) ≡ l))
 
 pub pieces : Pieces
-unfolding byteTurn headStep lineOf printed decimalOf fitsBy outcomeOf goesAfter lentAfter playOf
+unfolding byteTurn headStep beginStep lineOf printed decimalOf fitsBy outcomeOf goesAfter lentAfter playOf
 pieces = record { byte-512 = refl; byte-513 = refl; room = (refl, refl); room-left = (refl, refl); unlent = (refl, refl, refl) }
 
 pub record Ends : Type 0 where
-  pub missing : endBytes (replicate 6 0) (replicate 84 0) ≡ refused 12 0 1
+  pub missing : endBytes (replicate 8 0) (replicate 84 0) ≡ refused 12 0 1
   -- a line takes 84 bytes of room, and `E` 42
-  pub no-room : endBytes (replicate 6 0) (replicate 83 0) ≡ []
-  pub end : endBytes (2 ∷ 1 ∷ 0 ∷ 57 ∷ 59 ∷ 0 ∷ []) (replicate 42 0) ≡ printed letterE (57 ∷ [])
-  pub no-room-for-end : endBytes (2 ∷ 1 ∷ 0 ∷ 57 ∷ 59 ∷ 0 ∷ []) (replicate 41 0) ≡ []
-  pub no-player : endBytes (replicate 5 0) (replicate 84 0) ≡ []
-  pub no-line : endBytes (0 ∷ 0 ∷ 0 ∷ 0 ∷ (2 ^ 64 - 1) ∷ 0 ∷ []) (replicate 84 0) ≡ []
+  pub no-room : endBytes (replicate 8 0) (replicate 83 0) ≡ []
+  pub end : endBytes (2 ∷ 1 ∷ 0 ∷ 57 ∷ 59 ∷ 0 ∷ 0 ∷ 0 ∷ []) (replicate 42 0) ≡ printed letterE (57 ∷ [])
+  pub no-room-for-end : endBytes (2 ∷ 1 ∷ 0 ∷ 57 ∷ 59 ∷ 0 ∷ 0 ∷ 0 ∷ []) (replicate 41 0) ≡ []
+  pub no-player : endBytes (replicate 7 0) (replicate 84 0) ≡ []
+  pub no-line : endBytes (0 ∷ 0 ∷ 0 ∷ 0 ∷ (2 ^ 64 - 1) ∷ 0 ∷ 0 ∷ 0 ∷ []) (replicate 84 0) ≡ []
   -- after a refusal the end prints nothing
-  pub after-a-refusal : endBytes (3 ∷ 1 ∷ 0 ∷ 0 ∷ 2 ∷ 0 ∷ []) (replicate 84 0) ≡ []
+  pub after-a-refusal : endBytes (3 ∷ 1 ∷ 0 ∷ 0 ∷ 2 ∷ 0 ∷ 0 ∷ 0 ∷ []) (replicate 84 0) ≡ []
 
 pub ends : Ends
 unfolding endBytes bytesWithin endOf printed decimalOf

@@ -20,7 +20,7 @@ use Rattle.player.specs.Limits.{countBound}
 use Rattle.listing.specs.Limits.{clockRoom}
 use Rattle.listing.specs.Steps.{endIn, endOf}
 use Rattle.player.specs.Numbers.{working}
-use Rattle.listing.specs.Listing.{Play, byteTurn, start, endSays, listingFrom, listing}
+use Rattle.listing.specs.Listing.{Play, turnBytes, byteTurn, start, endSays, listingFrom, listing}
 use Rattle.listing.specs.Calls.{Lent, lentOf, fits, nothing, further, played, lentAfter, goesAfter, outcomeOf, PiecePlayed, endBytes, Finished}
 use Rattle.listing.specs.Parts.{Able}
 use Rattle.listing.proofs.Pieces.{stopped-turn}
@@ -32,18 +32,18 @@ pub cut : (room : ℕ) (p : Play) (piece more : List ℕ)
     → listingFrom p (piece ++ more)
     ≡ played room p piece .says ++ listingFrom (played room p piece .play) (drop (played room p piece .used) piece ++ more)
 cut room p [] more = refl
-cut room p (b ∷ bs) more = go (leb clockRoom room) (cut (room - length (byteTurn p b .says)) (byteTurn p b .play) bs more)
+cut room p (b ∷ bs) more = go (leb clockRoom room) (cut (room - length (turnBytes (byteTurn p b))) (byteTurn p b .play) bs more)
   where
     go : (r : Bool) → (let t = byteTurn p b in
-        let o = played (room - length (t .says)) (t .play) bs in
+        let o = played (room - length (turnBytes t)) (t .play) bs in
         listingFrom (t .play) (bs ++ more) ≡ o .says ++ listingFrom (o .play) (drop (o .used) bs ++ more)
-        → t .says ++ listingFrom (t .play) (bs ++ more)
+        → turnBytes t ++ listingFrom (t .play) (bs ++ more)
         ≡ cond r (further t o) (nothing p) .says
         ++ listingFrom (cond r (further t o) (nothing p) .play) (drop (cond r (further t o) (nothing p) .used) (b ∷ bs) ++ more))
     go true e =
         let t = byteTurn p b in
-        let o = played (room - length (t .says)) (t .play) bs in
-        ap (λ (l : List ℕ). t .says ++ l) e ∙ sym (append-assoc (t .says) (o .says) (listingFrom (o .play) (drop (o .used) bs ++ more)))
+        let o = played (room - length (turnBytes t)) (t .play) bs in
+        ap (λ (l : List ℕ). turnBytes t ++ l) e ∙ sym (append-assoc (turnBytes t) (o .says) (listingFrom (o .play) (drop (o .used) bs ++ more)))
     go false e = refl
 
 -- a refused listing prints nothing more, whatever follows

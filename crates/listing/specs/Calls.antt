@@ -13,7 +13,7 @@ use Rattle.player.specs.Fitting.{fits as fitsBy}
 use Rattle.listing.specs.declared.Played.{Played}
 use Rattle.listing.specs.Limits.{clockRoom}
 use Rattle.listing.specs.Steps.{endOf}
-use Rattle.listing.specs.Listing.{Play, Turn, byteTurn}
+use Rattle.listing.specs.Listing.{Play, Turn, turnBytes, byteTurn}
 
 -- the lent words and bytes of a player
 pub record Lent : Type 0 where
@@ -64,21 +64,21 @@ abbrev pub nothing : Play → Outcome
 nothing p = record { used = 0; play = p; says = [] }
 
 abbrev pub further : Turn → Outcome → Outcome
-further t o = record { used = suc (o .used); play = o .play; says = t .says ++ o .says }
+further t o = record { used = suc (o .used); play = o .play; says = turnBytes t ++ o .says }
 
 -- byte after byte, while there is room
 abbrev pub played : (room : ℕ) → Play → (piece : List ℕ) → Outcome
 played room p [] = nothing p
 played room p (b ∷ bs) =
     cond (leb clockRoom room)
-    (further (byteTurn p b) (played (room - length (byteTurn p b .says)) (byteTurn p b .play) bs))
+    (further (byteTurn p b) (played (room - length (turnBytes (byteTurn p b))) (byteTurn p b .play) bs))
     (nothing p)
 
 -- what is lent at exit
 unfoldable pub lentAfter : Lent → (piece out : List ℕ) → Lent
 lentAfter l piece out = cond (fits (length piece) l) (lentOf (played (length out) (playOf l) piece .play)) l
 
--- whether there is more to play: what is lent is a player's, and the listing is not refused
+-- whether there is more to play: what is lent is a player's, and the listing is neither refused nor matched
 unfoldable pub goesAfter : Lent → (piece out : List ℕ) → Bool
 goesAfter l piece out = fits (length piece) l && working (played (length out) (playOf l) piece .play .player .phase)
 

@@ -3,4 +3,5 @@ pub mod Limits
 pub mod Steps
 pub mod Listing
 pub mod Calls
+pub mod Matching
 pub mod Parts

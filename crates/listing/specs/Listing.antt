@@ -12,9 +12,11 @@ use Rattle.column.specs.Refusals.{numberOf, attributesAnswer, clockAnswer}
 use Rattle.text.specs.Bytes.{newline, mostBytes}
 use Rattle.text.specs.Numbers.{Numbers, values, malformed, lineOf, isWell, wordsOf}
 use Rattle.text.specs.Printed.{pasted}
+use Rattle.event.specs.declared.Event.{Event}
 use Rattle.event.specs.Events.{bytesOf}
 use Rattle.player.specs.declared.Phase.{Phase}
 use Rattle.player.specs.declared.Phase.the-variants.{Head, Settings, Clocks, Stopped}
+use Rattle.player.specs.declared.Shows.the-variants.{Outputs}
 use Rattle.player.specs.declared.Player.{Player}
 use Rattle.player.specs.Numbers.{working}
 use Rattle.listing.specs.declared.steps.Step.{Step}
@@ -35,7 +37,7 @@ pub record Play : Type 0 where
 -- nothing read; the registers of a cleared column
 abbrev pub start : Play
 start = record {
-  player = record { phase = Head; count = 0; given = 0; clocks = 0; lines = 0; held = 0 };
+  player = record { phase = Head; count = 0; given = 0; clocks = 0; lines = 0; held = 0; shows = Outputs };
   attributes = replicate (attributeWords * mostSlices) 0;
   registers = replicate (registerWords * mostSlices) 0;
   ports = replicate (portWords * mostSlices) 0;
@@ -80,10 +82,6 @@ clockedOutputs q at rs ps os =
     (pasted 0 (columnShown (q .count) (take (attributeWords * q .count) at) (take (registerWords * q .count) rs) (take (portWords * q .count) ps)) os)
     os
 
--- "`N` count"
-abbrev pub headLeaves : Player → Numbers → (at rs ps os : List ℕ) → Left
-headLeaves q x at rs ps os = leaving (headStep q x) at rs ps os
-
 -- ---- `A` lines
 
 -- "one `A` line of 21 numbers a slice" (01)
@@ -113,7 +111,7 @@ settingsLeaves q x at rs ps os = leaving (groupStep q (isWell x) (settingsStep q
 abbrev pub portsLeave : Player → Numbers → (at rs ps os : List ℕ) → Left
 portsLeave q x at rs ps os =
     leaving
-    (groupStep q (isWell x) (clockStep q (clockOf q at rs ps os)))
+    (groupStep q (isWell x) (clockStep q (clockOf q at rs ps os) (clockedOutputs q at rs ps os)))
     at
     (cond (isWell x && lastOfGroup q) (clockedRegisters q at rs ps os) rs)
     ps
@@ -121,17 +119,20 @@ portsLeave q x at rs ps os =
 
 -- a whole line, by the kind of line that is due
 abbrev pub lineLeaves : Phase → Player → (line at rs ps os : List ℕ) → Left
-lineLeaves Head q line at rs ps os = headLeaves q (lineOf letterN 1 line) at rs ps os
+lineLeaves Head q line at rs ps os = leaving (headStep q (lineOf letterN 2 line) (lineOf letterN 1 line)) at rs ps os
 lineLeaves Settings q line at rs ps os =
     settingsLeaves q (settingsLine line) (placed attributeWords q (settingsLine line) at) rs ps os
 lineLeaves Clocks q line at rs ps os =
     portsLeave q (lineOf letterP portWords line) at rs (placed portWords q (lineOf letterP portWords line) ps) os
 lineLeaves Stopped q line at rs ps os = leaving (goesOn q) at rs ps os
 
--- what a byte does: what is known then, and what is printed
+-- what a byte does: what is known then, and what there is to print
 pub record Turn : Type 0 where
   pub play : Play
-  pub says : List ℕ
+  pub event : Event
+
+abbrev pub turnBytes : Turn → List ℕ
+turnBytes t = bytesOf (t .event) (t .play .player .count) (t .play .outputs)
 
 abbrev pub turnOf : Left → (line : List ℕ) → Turn
 turnOf l line = record {
@@ -143,7 +144,7 @@ turnOf l line = record {
     outputs = l .outputs;
     line = line;
   };
-  says = bytesOf (l .step .event) (l .step .player .count) (l .outputs);
+  event = l .step .event;
 }
 
 -- a step that leaves the words as they are
@@ -164,7 +165,7 @@ lineTurn p =
     (lineLeaves (p .player .phase) (counted (p .player)) (take (p .player .held) (p .line)) (p .attributes) (p .registers) (p .ports) (p .outputs))
     (p .line)
 
--- after a refusal a byte does nothing
+-- after a refusal, or the match that was looked for, a byte does nothing
 unfoldable pub byteTurn : Play → (b : ℕ) → Turn
 byteTurn p b =
     cond (working (p .player .phase)) (cond (eqb b newline) (lineTurn p) (partTurn p b)) (turnOf (stepping (goesOn (p .player)) p) (p .line))
@@ -176,7 +177,7 @@ endSays q = bytesOf (endOf q) 0 []
 -- what is printed of a text from a play on
 abbrev pub listingFrom : Play → (text : List ℕ) → List ℕ
 listingFrom p [] = endSays (p .player)
-listingFrom p (b ∷ bs) = byteTurn p b .says ++ listingFrom (byteTurn p b .play) bs
+listingFrom p (b ∷ bs) = turnBytes (byteTurn p b) ++ listingFrom (byteTurn p b .play) bs
 
 -- what `dspcol` prints of its whole input
 unfoldable pub listing : (text : List ℕ) → List ℕ

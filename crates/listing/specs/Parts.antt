@@ -62,7 +62,7 @@ pub record SettingsTaken (q : Player) (line at : List ℕ) (r : Step) (at′ : L
 
 pub record PortsTaken (q : Player) (line at rs ps os : List ℕ) (r : Step) (rs′ ps′ os′ : List ℕ) : Type 0 where
   pub ports : ps′ ≡ placed portWords q (lineOf letterP portWords line) ps
-  pub step : r ≡ groupStep q (isWell (lineOf letterP portWords line)) (clockStep q (clockOf q at rs ps′ os))
+  pub step : r ≡ groupStep q (isWell (lineOf letterP portWords line)) (clockStep q (clockOf q at rs ps′ os) (clockedOutputs q at rs ps′ os))
   pub registers : rs′ ≡ cond (isWell (lineOf letterP portWords line) && lastOfGroup q) (clockedRegisters q at rs ps′ os) rs
   pub outputs : os′ ≡ cond (isWell (lineOf letterP portWords line) && lastOfGroup q) (clockedOutputs q at rs ps′ os) os
 
@@ -103,7 +103,7 @@ pub record Stretch : Type 0 where
 abbrev pub joining : Player → Gathered → Stretch
 joining q g = record { player = longer (g .count) q; count = g .count; line = g .line }
 
--- those that join the line; after a refusal all of them, and they do nothing
+-- those that join the line; where no line is due all of them, and they do nothing
 abbrev pub stretchOf : Player → (line text : List ℕ) → Stretch
 stretchOf q line text =
     cond (working (q .phase)) (joining q (gathering (q .held) line text)) (record { player = q; count = length text; line = line })

@@ -4,9 +4,9 @@ ghost use Prim.Native.Nat.{_*_};
 ghost use lib.ListN.{length};
 ghost use Rattle.records.specs.Records.{attributeWords};
 ghost use Rattle.text.specs.Numbers.{lineOf};
-ghost use Rattle.listing.specs.Letters.{letterN};
 ghost use Rattle.player.specs.Limits.{mostSlices};
-ghost use Rattle.listing.specs.Steps.{goesOn, answered, headStep};
+ghost use Rattle.listing.specs.Letters.{letterN};
+ghost use Rattle.listing.specs.Steps.{goesOn, answered, showsWithin, beginStep, headStep};
 ghost use Rattle.listing.specs.Listing.{leaving, turnOf, byteTurn};
 ghost use Rattle.listing.specs.Parts.{Fair, Clockable, Words, SettingsRead, SettingsTaken, PortsTaken, Frames, Ending, playing};
 use crate::letters;
@@ -19,6 +19,7 @@ use column::Registers;
 use event::Event;
 use player::Phase;
 use player::Player;
+use player::Shows;
 
 fn wide(n: usize) -> u64
     ensures { λ r. ⌜ r ≡ n ⌝ }
@@ -46,19 +47,45 @@ fn answered(q: Player, answer: column::Answer, accepted: Step) -> Step
     steps::refused(q, number, wide(column::place(answer)))
 }
 
-// The `N` line.
-fn take_head(q: Player, line: &[u8]) -> Step
-    ensures { λ r. ⌜ r ≡ headStep q (lineOf letterN 1 (now (line .entry))) ⌝ }
+// The slice that is looked at is one of the column's.
+fn shows_within(shows: Shows, count: usize) -> bool
+    ensures { λ r. ⌜ r ≡ showsWithin shows count ⌝ }
 {
-    let mut words = [0u64; 1];
-    if !text::line(line, letters::N, &mut words) {
-        return steps::refused(q, 12, q.lines);
+    match shows {
+        Shows::Outputs => true,
+        Shows::FirstMatch(slice) => slice < count,
     }
-    let count = words[0];
-    if !((1 <= count) & (count <= player::MOST_SLICES as u64)) {
+}
+
+// An `N` line's numbers: number 1, and then 13, are checked as soon as it is read.
+fn begin(q: Player, count: u64, shows: Shows) -> Step
+    ensures { λ r. ⌜ r ≡ beginStep q count shows ⌝ }
+{
+    let slices = count as usize;
+    let within = shows_within(shows, slices);
+    let fits = (1 <= count) & (count <= player::MOST_SLICES as u64);
+    if !fits {
         return steps::refused(q, 1, 0);
     }
-    quiet(steps::named(q, count as usize))
+    if !within {
+        return steps::refused(q, 13, 0);
+    }
+    quiet(steps::named(q, slices, shows))
+}
+
+// The `N` line: the count, and the slice whose first match is looked for, if there is one.
+fn take_head(q: Player, line: &[u8]) -> Step
+    ensures { λ r. ⌜ r ≡ headStep q (lineOf letterN 2 (now (line .entry))) (lineOf letterN 1 (now (line .entry))) ⌝ }
+{
+    let mut words = [0u64; 2];
+    if text::line(line, letters::N, &mut words) {
+        return begin(q, words[0], Shows::FirstMatch(words[1] as usize));
+    }
+    let mut word = [0u64; 1];
+    if text::line(line, letters::N, &mut word) {
+        return begin(q, word[0], Shows::Outputs);
+    }
+    steps::refused(q, 12, q.lines)
 }
 
 // The attributes that a line has that does not name USE_SIMD.
@@ -92,7 +119,7 @@ fn take_settings(q: Player, line: &[u8], attributes: &mut [u64]) -> Step
     answered(q, answer, quiet(steps::clocking(q)))
 }
 
-// A `P` line. The clock, the column's own on the words of its slices, is run after the last of them.
+// A `P` line. The clock, the column's own on the words of its slices, is run after the last of them; what is shown of it is the player's.
 fn take_ports(
     q: Player,
     line: &[u8],
@@ -120,11 +147,11 @@ fn take_ports(
         &ports[..Ports::WORDS * slices],
         &mut outputs[..Outputs::WORDS * slices],
     );
-    let step = Step {
+    let happened = Step {
         player: steps::after_clock(q),
         event: Event::Clocked(q.clocks),
     };
-    answered(q, answer, step)
+    answered(q, answer, steps::shown(happened, &outputs[..]))
 }
 
 // Ends a line.

@@ -36,7 +36,7 @@ struct Reach {
     used: usize,
 }
 
-// The bytes of the piece up to a newline or one too many, or all of them. After a refusal bytes do nothing.
+// The bytes of the piece up to a newline or one too many, or all of them. Where no line is due bytes do nothing.
 fn up_to_end(q: Player, piece: &[u8], from: usize, line: &mut [u8]) -> Reach
     requires { ⌜ (from ≤ length (now piece)) × (q .held ≤ mostBytes) × (length (now line) ≡ mostBytes) ⌝ }
     ensures { λ r. ⌜ Reaches q (now (piece .entry)) from (now (line .entry)) r (now (line .exit)) ⌝ }

@@ -3,10 +3,11 @@ ghost use mathlib.Core.Path.{_≡_};
 ghost use Prim.Native.Nat.{_+_, _<_, _≤_};
 ghost use Rattle.text.specs.Bytes.{mostBytes};
 ghost use Rattle.player.specs.Limits.{mostSlices, countBound};
-ghost use Rattle.listing.specs.Steps.{counted, longer, oneMore, named, clocking, clockRun, refusal, endIn, endOf};
+ghost use Rattle.listing.specs.Steps.{counted, longer, oneMore, named, clocking, clockRun, halted, refusal, shownStep, endIn, endOf};
 use event::Event;
 use player::Phase;
 use player::Player;
+use player::Shows;
 
 // What a line leaves: the player, and what there is to print.
 pub struct Step {
@@ -20,6 +21,7 @@ pub fn after_line(q: Player) -> Player
     ensures { λ r. ⌜ r ≡ counted q ⌝ }
 {
     let phase = q.phase;
+    let shows = q.shows;
     Player {
         phase,
         count: q.count,
@@ -27,6 +29,7 @@ pub fn after_line(q: Player) -> Player
         clocks: q.clocks,
         lines: q.lines + 1,
         held: 0,
+        shows,
     }
 }
 
@@ -36,6 +39,7 @@ pub fn longer(q: Player, more: usize) -> Player
     ensures { λ r. ⌜ r ≡ longer more q ⌝ }
 {
     let phase = q.phase;
+    let shows = q.shows;
     Player {
         phase,
         count: q.count,
@@ -43,6 +47,7 @@ pub fn longer(q: Player, more: usize) -> Player
         clocks: q.clocks,
         lines: q.lines,
         held: q.held + more,
+        shows,
     }
 }
 
@@ -52,6 +57,7 @@ pub fn after_slice(q: Player) -> Player
     ensures { λ r. ⌜ r ≡ oneMore q ⌝ }
 {
     let phase = q.phase;
+    let shows = q.shows;
     Player {
         phase,
         count: q.count,
@@ -59,12 +65,13 @@ pub fn after_slice(q: Player) -> Player
         clocks: q.clocks,
         lines: q.lines,
         held: q.held,
+        shows,
     }
 }
 
-// The count is known: `A` lines are due.
-pub fn named(q: Player, count: usize) -> Player
-    ensures { λ r. ⌜ r ≡ named q count ⌝ }
+// The count is known, and what to show: `A` lines are due.
+pub fn named(q: Player, count: usize, shows: Shows) -> Player
+    ensures { λ r. ⌜ r ≡ named q count shows ⌝ }
 {
     Player {
         phase: Phase::Settings,
@@ -73,6 +80,7 @@ pub fn named(q: Player, count: usize) -> Player
         clocks: q.clocks,
         lines: q.lines,
         held: q.held,
+        shows,
     }
 }
 
@@ -80,6 +88,7 @@ pub fn named(q: Player, count: usize) -> Player
 pub fn clocking(q: Player) -> Player
     ensures { λ r. ⌜ r ≡ clocking q ⌝ }
 {
+    let shows = q.shows;
     Player {
         phase: Phase::Clocks,
         count: q.count,
@@ -87,6 +96,7 @@ pub fn clocking(q: Player) -> Player
         clocks: q.clocks,
         lines: q.lines,
         held: q.held,
+        shows,
     }
 }
 
@@ -96,6 +106,7 @@ pub fn after_clock(q: Player) -> Player
     ensures { λ r. ⌜ r ≡ clockRun q ⌝ }
 {
     let phase = q.phase;
+    let shows = q.shows;
     Player {
         phase,
         count: q.count,
@@ -103,6 +114,23 @@ pub fn after_clock(q: Player) -> Player
         clocks: q.clocks + 1,
         lines: q.lines,
         held: q.held,
+        shows,
+    }
+}
+
+// No line is due any more.
+fn halted(q: Player) -> Player
+    ensures { λ r. ⌜ r ≡ halted q ⌝ }
+{
+    let shows = q.shows;
+    Player {
+        phase: Phase::Stopped,
+        count: q.count,
+        given: 0,
+        clocks: q.clocks,
+        lines: q.lines,
+        held: 0,
+        shows,
     }
 }
 
@@ -111,15 +139,25 @@ pub fn refused(q: Player, number: u64, place: u64) -> Step
     ensures { λ r. ⌜ r ≡ refusal q number place ⌝ }
 {
     Step {
-        player: Player {
-            phase: Phase::Stopped,
-            count: q.count,
-            given: 0,
-            clocks: q.clocks,
-            lines: q.lines,
-            held: 0,
-        },
+        player: halted(q),
         event: Event::Refused(number, q.clocks, place),
+    }
+}
+
+// What the player shows of a step that led to these outputs. After its match no line is due.
+pub fn shown(step: Step, outputs: &[u64]) -> Step
+    ensures { λ r. ⌜ r ≡ shownStep step (now (outputs .entry)) ⌝ }
+{
+    let player = step.player;
+    let shows = player.shows;
+    let happened = step.event;
+    let event = event::shown(shows, happened, outputs);
+    let Event::Matched(_) = event else {
+        return Step { player, event };
+    };
+    Step {
+        player: halted(player),
+        event,
     }
 }
 

@@ -5,20 +5,27 @@ use mathlib.Core.List.{[], _∷_}
 use Prim.Native.Nat.{ℕ, _-_, _^_}
 use lib.ListN.{replicate}
 use Rattle.player.specs.declared.Phase.the-variants.{Head, Settings, Clocks, Stopped}
+use Rattle.player.specs.declared.Shows.{Shows}
+use Rattle.player.specs.declared.Shows.the-variants.{Outputs, FirstMatch}
 use Rattle.player.specs.declared.Player.{Player}
-use Rattle.player.specs.Numbers.{working, phaseOf, playerWords, playerOf}
+use Rattle.player.specs.Numbers.{working, phaseOf, showsOf, playerWords, playerOf}
 use Rattle.player.specs.Fitting.{numbersFit, lengthsFit}
 
 -- a player whose `P` lines are due
+abbrev showing : Shows → (count given clocks lines held : ℕ) → Player
+showing shows count given clocks lines held =
+    record { phase = Clocks; count = count; given = given; clocks = clocks; lines = lines; held = held; shows = shows }
+
 abbrev player : (count given clocks lines held : ℕ) → Player
-player count given clocks lines held =
-    record { phase = Clocks; count = count; given = given; clocks = clocks; lines = lines; held = held }
+player = showing Outputs
 
 pub record Numbers : Type 0 where
   -- zeros are a player that has read nothing
-  pub zeros : playerOf (replicate 6 0) ≡ record { phase = Head; count = 0; given = 0; clocks = 0; lines = 0; held = 0 }
-  pub in-order : playerWords (player 24 5 7 9 11) ≡ 2 ∷ 24 ∷ 5 ∷ 7 ∷ 9 ∷ 11 ∷ []
-  pub back : playerOf (2 ∷ 24 ∷ 5 ∷ 7 ∷ 9 ∷ 11 ∷ []) ≡ player 24 5 7 9 11
+  pub zeros : playerOf (replicate 8 0) ≡ record { phase = Head; count = 0; given = 0; clocks = 0; lines = 0; held = 0; shows = Outputs }
+  pub in-order : playerWords (showing (FirstMatch 3) 24 5 7 9 11) ≡ 2 ∷ 24 ∷ 5 ∷ 7 ∷ 9 ∷ 11 ∷ 1 ∷ 3 ∷ []
+  pub back : playerOf (2 ∷ 24 ∷ 5 ∷ 7 ∷ 9 ∷ 11 ∷ 1 ∷ 3 ∷ []) ≡ showing (FirstMatch 3) 24 5 7 9 11
+  -- every output is shown but where the word for it is 1
+  pub shows-all : (playerWords (player 24 5 7 9 11) ≡ 2 ∷ 24 ∷ 5 ∷ 7 ∷ 9 ∷ 11 ∷ 0 ∷ 0 ∷ []) × (showsOf 0 3 ≡ Outputs) × (showsOf 2 3 ≡ Outputs)
   -- a line is due in each phase but the last
   pub due : (working Head ≡ true) × (working Settings ≡ true) × (working Clocks ≡ true) × (working Stopped ≡ false)
   pub stopped : (phaseOf 3 ≡ Stopped) × (phaseOf 4 ≡ Stopped)
@@ -37,6 +44,7 @@ numbers =
       zeros = refl;
       in-order = refl;
       back = refl;
+      shows-all = (refl, refl, refl);
       due = (refl, refl, refl, refl);
       stopped = (refl, refl);
       fit = refl;

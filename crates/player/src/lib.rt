@@ -1,8 +1,8 @@
-// A player's numbers: the kind of line that is due, and the counts; and the lent words that they are between two pieces. Every call takes
-// whatever it is given.
+// A player's numbers: the kind of line that is due, the counts, and what it shows; and the lent words that they are between two pieces.
+// Every call takes whatever it is given.
 ghost use mathlib.Core.Path.{_≡_};
 ghost use Rattle.lent.specs.Words.{enough, stored};
-ghost use Rattle.player.specs.Numbers.{working, phaseNumber, phaseOf, playerNumbers, playerWords, playerOf};
+ghost use Rattle.player.specs.Numbers.{working, phaseNumber, phaseOf, showsNumber, watched, showsOf, playerNumbers, playerWords, playerOf};
 ghost use Rattle.player.specs.Fitting.{numbersFit, fits};
 use records::Attributes;
 use records::Outputs;
@@ -13,7 +13,7 @@ use records::Registers;
 pub const MOST_SLICES: usize = 24;
 
 // How many words and bytes a player is lent: its numbers, the words of 24 slices, and the bytes of a line.
-pub const NUMBERS: usize = 6;
+pub const NUMBERS: usize = 8;
 
 pub const ATTRIBUTES: usize = Attributes::WORDS * MOST_SLICES;
 
@@ -25,12 +25,18 @@ pub const OUTPUTS: usize = Outputs::WORDS * MOST_SLICES;
 
 pub const LINE: usize = 512;
 
-// The kind of line that is due: `N`, `A` or `P`; none after a refusal.
+// The kind of line that is due: `N`, `A` or `P`; none after a refusal or a match.
 pub enum Phase {
     Head,
     Settings,
     Clocks,
     Stopped,
+}
+
+// What is shown of a clock: every slice's outputs; or the first in which a chosen slice shows PATTERNDETECT, and nothing of the others.
+pub enum Shows {
+    Outputs,
+    FirstMatch(usize),
 }
 
 // The slices, the lines that are given of a group of one a slice, the clocks run, the lines read, and the bytes of the line so far.
@@ -41,6 +47,7 @@ pub struct Player {
     pub clocks: u64,
     pub lines: u64,
     pub held: usize,
+    pub shows: Shows,
 }
 
 pub fn is_working(phase: Phase) -> bool
@@ -76,6 +83,34 @@ fn phase_number(phase: Phase) -> u64
     }
 }
 
+// What is shown is two words: which, and the slice.
+fn shows_number(shows: Shows) -> u64
+    ensures { λ r. ⌜ r ≡ showsNumber shows ⌝ }
+{
+    match shows {
+        Shows::Outputs => 0,
+        Shows::FirstMatch(_) => 1,
+    }
+}
+
+fn watched(shows: Shows) -> usize
+    ensures { λ r. ⌜ r ≡ watched shows ⌝ }
+{
+    match shows {
+        Shows::Outputs => 0,
+        Shows::FirstMatch(slice) => slice,
+    }
+}
+
+fn shows_of(number: u64, slice: usize) -> Shows
+    ensures { λ r. ⌜ r ≡ showsOf number slice ⌝ }
+{
+    if number == 1 {
+        return Shows::FirstMatch(slice);
+    }
+    Shows::Outputs
+}
+
 // The player whose numbers are lent; of too few words the one that has read nothing.
 pub fn read(numbers: &[u64]) -> Player
     ensures { λ r. ⌜ r ≡ playerOf (enough playerNumbers (now (numbers .entry))) ⌝ }
@@ -88,6 +123,7 @@ pub fn read(numbers: &[u64]) -> Player
             clocks: 0,
             lines: 0,
             held: 0,
+            shows: Shows::Outputs,
         };
     }
     Player {
@@ -97,6 +133,7 @@ pub fn read(numbers: &[u64]) -> Player
         clocks: numbers[3],
         lines: numbers[4],
         held: numbers[5] as usize,
+        shows: shows_of(numbers[6], numbers[7] as usize),
     }
 }
 
@@ -114,6 +151,9 @@ pub fn store(player: Player, numbers: &mut [u64])
     numbers[3] = player.clocks;
     numbers[4] = player.lines;
     numbers[5] = player.held as u64;
+    let shows = player.shows;
+    numbers[6] = shows_number(shows);
+    numbers[7] = watched(shows) as u64;
 }
 
 // The counts are in range, with room for `n` lines and clocks more.

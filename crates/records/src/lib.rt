@@ -456,6 +456,9 @@ pub struct Outputs {
 impl Outputs {
     pub const WORDS: usize = 7;
 
+    // Where PATTERNDETECT stands among them.
+    pub const PATTERNDETECT: usize = 1;
+
     // Every word 0.
     pub fn cleared() -> Outputs
         ensures { λ r. ⌜ r ≡ outputsOf (replicate outputWords 0) ⌝ }

@@ -8,14 +8,14 @@ use native.Mathlib.Omega.{arith}
 use lib.Dec.{eqb, leb, ltb, eqb·suc-suc, eqb·zero-suc, eqb·suc-zero}
 use lib.ListN.{length, take, drop, getD, set, replicate, length-replicate, length-set}
 use lib.Seq.{take-suc-set, drop-drop, take-all}
-use borrow.Author.Tests.{eqb-true, eqb-false, ltb-true, ltb-false}
+use borrow.Author.Tests.{eqb-true, eqb-false, ne-eqb, leb-true, ltb-true, ltb-false}
 use Rattle.text.specs.Bytes.{tab, mostBytes}
 use Rattle.text.specs.declared.numeral.Parsed.{Parsed}
 use Rattle.text.specs.declared.numeral.Parsed.the-variants.{Value, Bad}
 use Rattle.text.specs.declared.numeral.Found.{Found}
 use Rattle.text.specs.declared.numeral.Found.the-variants.{Number, Nothing}
 use Rattle.text.specs.Parts.{parted, onto}
-use Rattle.text.specs.Numbers.{numberOf, Numbers, values, malformed, joins, numbersOf, counted, headed, lineOf, isWell, wordsOf}
+use Rattle.text.specs.Numbers.{numberOf, Numbers, values, malformed, joins, numbersOf, counted, lettered, headed, lineOf, isWell, wordsOf}
 use Rattle.text.specs.Calls.{Taken}
 use Rattle.text.specs.Within.{before, upTo, numberAt, fieldAt, starts, due, filled}
 use Rattle.text.proofs.Numerals.{cond-same, next-byte, none-left, found-within}
@@ -262,3 +262,39 @@ words-length letter n s = ap (λ x. length (wordsOf n x)) (line-starts letter n 
     go : (t : Bool) → length (wordsOf n (cond t (due n (drop 1 s)) malformed)) ≡ n
     go true = due-length n (drop 1 s)
     go false = length-replicate n 0
+
+-- ---- a well-formed line
+
+not-values : (ws : List ℕ) → malformed ≡ values ws → ⊥
+not-values ws e =
+    let z : false ≡ true = ap isWell e in
+    let o : _≡_ {A = ℕ} 0 1 = cc in
+    omega arith
+
+module _ (letter n : ℕ) (s ws : List ℕ) (e : lineOf letter n s ≡ values ws) where
+  -- is not too long
+  pub well-short : length s ≤ mostBytes
+  unfolding lineOf
+  well-short = go (leb (length s) mostBytes) refl e
+    where
+      go : (t : Bool) → leb (length s) mostBytes ≡ t → cond t (headed letter n (parted tab s)) malformed ≡ values ws → length s ≤ mostBytes
+      go true t h = leb-true (length s) mostBytes t
+      go false t h = absurd (not-values ws h)
+
+  -- and has so many numbers, and no other count of them
+  pub well-once : (m : ℕ) → (n ≡ m → ⊥) → lineOf letter m s ≡ malformed
+  unfolding lineOf
+  well-once m other = go (leb (length s) mostBytes) (parted tab s) e
+    where
+      count : (fs : List (List ℕ)) (t : Bool) → eqb (length fs) n ≡ t → cond t (numbersOf fs) malformed ≡ values ws → counted m fs ≡ malformed
+      count fs true t h = rw (ne-eqb (length fs) m (λ k. other (sym (eqb-true (length fs) n t) ∙ k)))
+      count fs false t h = absurd (not-values ws h)
+
+      go : (l : Bool) (fs : List (List ℕ)) → cond l (headed letter n fs) malformed ≡ values ws → cond l (headed letter m fs) malformed ≡ malformed
+      go false fs h = refl
+      go true [] h = refl
+      go true (f ∷ fs) h = lead (lettered letter f) h
+        where
+          lead : (t : Bool) → cond t (counted n fs) malformed ≡ values ws → cond t (counted m fs) malformed ≡ malformed
+          lead true k = count fs (eqb (length fs) n) refl k
+          lead false k = refl

@@ -26,6 +26,8 @@ pub mod att {
     pub const USE_MULT: usize = 16;
     pub const AMULTSEL: usize = 17;
     pub const RND: usize = 18;
+    pub const PATTERN: usize = 19;
+    pub const MASK: usize = 20;
     pub const USE_SIMD: usize = 21;
 }
 

@@ -1,17 +1,16 @@
 -- `event::put_clock` meets its contract: a line for each slice, from slice 0 up. Assumes nothing.
 use Prim.Native.Nat.{_≤_, _-_}
 use native.Mathlib.Omega.{arith}
-use Rattle.column.specs.Column.{stacked}
 use Rattle.text.specs.Printed.{Put}
 use Rattle.text.proofs.Paste.{put-none}
-use Rattle.event.specs.Events.{outputLine}
+use Rattle.event.specs.Lines.{outputLine, listed, printedLines}
 use Rattle.event.proofs.Printing.{kept-room, one-line, all-slices}
 use borrow.Author.Needs.{needs}
 use Rattle.event.proofs.put_clock.Statement.{statement}
 use Rattle.event.proofs.put_clock.Tie as tie
 
 abbrev Inv-loop : tie.InvT-loop
-Inv-loop clock count outputs out₀ at end₀ k₀ out end k = (k ≤ count) × Put at (stacked (outputLine clock outputs) k) out₀ end out
+Inv-loop clock count outputs out₀ at end₀ k₀ out end k = (k ≤ count) × Put at (printedLines (listed (outputLine clock outputs) k)) out₀ end out
 
 abbrev μ-loop : tie.MeasureT-loop
 μ-loop clock count outputs out₀ at end₀ k₀ out end k = count - k

@@ -10,13 +10,13 @@ too-few c = let ns = c .before .before .args .numbers .now in rw (enough-none pl
 
 whole : tie.Need-returns-2
 whole c =
-    let phase = c .before .before .before .before .before in
+    let phase = c .before .before .before .before .before .before .before .before in
     let test = phase .before .before in
     let ns = test .before .before .args .numbers .now in
-    rw (enough-all playerNumbers ns (test .if1 .left), phase .phase-of .ensures)
+    rw (enough-all playerNumbers ns (test .if1 .left), phase .phase-of .ensures, c .shows-of .ensures)
 
 pub read-spec : {M : Type 1} → statement M
 read-spec =
     tie.close
     (tie.spec too-few (λ c. search needs) (λ c κs. search needs) (λ c. search needs) (λ c. search needs) (λ c. search needs) (λ c. search needs)
-    (λ c. search needs) whole)
+    (λ c. search needs) (λ c. search needs) (λ c. search needs) (λ c κs. search needs) whole)

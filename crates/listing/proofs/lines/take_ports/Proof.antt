@@ -12,7 +12,7 @@ use Rattle.event.specs.declared.Event.the-variants.{Clocked}
 use Rattle.player.specs.declared.Player.{Player}
 use Rattle.listing.specs.Letters.{letterP}
 use Rattle.player.specs.Limits.{mostSlices}
-use Rattle.listing.specs.Steps.{goesOn, answered}
+use Rattle.listing.specs.Steps.{goesOn, answered, shownStep}
 use Rattle.listing.proofs.Clocks.{within, front-length, registers-left, outputs-left}
 use Rattle.listing.proofs.Groups.{ReadIn, put-at, malformed-step, one-of-step, last-step, line-in}
 use borrow.Author.Needs.{needs}
@@ -75,9 +75,16 @@ after-clock-requires c κs =
     let line = all .before .before .before .before .before in
     given line .pre .0 .clocks
 
+ports-kept : tie.Need-same-length-4
+ports-kept c =
+    let all = c .before .before .before .before .before .before .before .before .before .before .before .before .before in
+    read (all .before .before .before .before .before) .long
+
 last : tie.Need-returns-3
 last c =
-    let did = c .before .before .before .before .before .before in
+    let shown = c .before in
+    let counted = shown .before .before in
+    let did = counted .before .before .before .before .before in
     let clock = did .clock in
     let all = did .before .before .before .before .before in
     let test = all .before .before in
@@ -88,21 +95,22 @@ last c =
     let few = given line .pre .0 .fair .count in
     let whole : q .count ≤ q .given + 1 = omega (arith, all .if2 .left) in
     let well = read line .well ∙ not-false _ (test .if1 .left) in
+    let outputs =
+    outputs-left q (a .attributes .now) (a .registers .now) (ports line) (a .outputs .now) (clock .last .1 .1 .1 .1 .0) few (words .outputs)
+    (clock .kept .1 .1 .1 .1 .0) (clock .ensures .outputs) in
     record {
       ports = read line .words;
       step =
           c .answered .ensures
           ∙ ap₂ (answered q) (clock .ensures .answer)
-          (ap (λ (p : Player). record { player = p; event = Clocked (q .clocks) }) (c .before .after-clock .ensures))
+          (shown .shown .ensures
+          ∙ ap₂ (λ (p : Player) (os : List ℕ). shownStep (record { player = p; event = Clocked (q .clocks) }) os) (counted .after-clock .ensures) outputs)
           ∙ sym (last-step _ _ _ well whole);
       registers =
           rw (well, le-leb (q .count) (q .given + 1) whole)
           (registers-left q (a .attributes .now) (a .registers .now) (ports line) (a .outputs .now) (clock .last .1 .1 .0) few (words .registers)
           (clock .kept .1 .1 .0) (clock .ensures .registers));
-      outputs =
-          rw (well, le-leb (q .count) (q .given + 1) whole)
-          (outputs-left q (a .attributes .now) (a .registers .now) (ports line) (a .outputs .now) (clock .last .1 .1 .1 .1 .0) few (words .outputs)
-          (clock .kept .1 .1 .1 .1 .0) (clock .ensures .outputs));
+      outputs = rw (well, le-leb (q .count) (q .given + 1) whole) outputs;
     }
 
 pub take-ports-spec : {M : Type 1} → statement M
@@ -113,4 +121,4 @@ take-ports-spec =
     (λ c κs. search needs) (λ c. search needs) one-of (λ c. search needs) (λ c. simp length-take (omega arith)) (λ c. search needs)
     (λ c. search needs) (λ c. simp length-take (omega arith)) (λ c. search needs) ports-within ports-length (λ c. search needs)
     (λ c. search needs) (λ c. simp length-take (omega arith)) (λ c κs. search needs) after-clock-requires (λ c κs. search needs)
-    (λ c. search needs) (λ c. search needs) (λ c. search needs) last)
+    (λ c κs. search needs) (λ c. search needs) ports-kept (λ c. search needs) last)
