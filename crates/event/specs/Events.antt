@@ -1,4 +1,4 @@
--- The bytes of a step of a listing, and where there is room for them. Assumes nothing.
+-- The bytes of what is printed of a step of a listing (01, "Port listings"), and where there is room for them. Assumes nothing.
 use Prim.Native.Nat.{ℕ, _+_, _*_, _-_}
 use mathlib.Core.Bool.{Bool, true, cond, _&&_}
 use mathlib.Core.List.{List, []}
@@ -11,6 +11,7 @@ use Rattle.event.specs.declared.Event.{Event}
 use Rattle.event.specs.declared.Event.the-variants.{Nothing, Clocked, Matched, Refused, Ended}
 use Rattle.event.specs.Lines.{linesOf, printedLines}
 
+-- those of its lines, one after the other
 abbrev pub bytesOf : Event → (count : ℕ) → (outputs : List ℕ) → List ℕ
 bytesOf e count os = printedLines (linesOf e count os)
 

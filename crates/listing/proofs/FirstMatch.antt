@@ -13,7 +13,7 @@ use Rattle.column.specs.Refusals.{countFits}
 use Rattle.text.specs.Bytes.{newline, mostBytes}
 use Rattle.text.specs.Numbers.{lineOf}
 use Rattle.text.specs.Printed.{printed}
-use Rattle.text.proofs.Lines.{well-short, well-once}
+use Rattle.text.proofs.Lines.{take-set, well-short, well-once}
 use Rattle.event.specs.Letters.{letterM, letterR}
 use Rattle.event.specs.Lines.{Line, lineWith, printedLines}
 use Rattle.player.specs.declared.Phase.the-variants.{Head, Settings}
@@ -27,10 +27,11 @@ use Rattle.listing.specs.Steps.{refusal, beginStep, headStep}
 use Rattle.listing.specs.Listing.{Play, leaving, start, Turn, turnOf, lineTurn, byteTurn, listing}
 use Rattle.listing.specs.Calls.{lentOf}
 use Rattle.listing.specs.Matching.{turnLines, linesBy, linesFrom, listingLines, matchClocks, firstMatch, unended, HeadLine, headed}
+use Rattle.listing.proofs.Pieces.{join-turn}
 use Rattle.listing.proofs.Whole.{Bench, pieces-play-the-listing}
 use Rattle.listing.proofs.Reading.{Caller, Reads, callers-get-the-listing}
 use Rattle.listing.proofs.Found.{listing-lines, stopped-none, found}
-use Rattle.listing.proofs.Watching.{line-turn, part-turn, take-set, answers}
+use Rattle.listing.proofs.Watching.{line-turn, answers}
 
 -- ---- a text cut in two
 
@@ -86,7 +87,7 @@ head-joins (b ∷ bs) more line held u h =
     let both = both-true (not (eqb b newline)) (unended bs) u in
     let k : held + 1 + length bs ≡ held + suc (length bs) = omega arith in
     let other : held ≡ mostBytes → ⊥ = λ e. omega arith in
-    rw (part-turn (reading held line) b refl (not-true (eqb b newline) (both .0)) (ne-eqb held mostBytes other))
+    rw (join-turn (reading held line) b refl (not-true (eqb b newline) (both .0)) (ne-eqb held mostBytes other))
     (head-joins bs more (set line held b) (held + 1) (both .1) (omega arith)
     ∙ ap (λ (n : ℕ). linesFrom (reading n (joined (set line held b) (held + 1) bs)) more) k)
 

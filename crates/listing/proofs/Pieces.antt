@@ -57,7 +57,7 @@ reached x p = record {
 }
 
 -- and once bytes joined the line
-abbrev stretched : Gathered → Play → Play
+abbrev pub stretched : Gathered → Play → Play
 stretched g p = reached (joining (p .player) g) p
 
 -- so many bytes of the line are known
@@ -86,10 +86,10 @@ stretch-zero : (room : ℕ) (p : Play) (text : List ℕ) → played room p text 
 stretch-zero room p text = sym (follow-none (played room p text)) ∙ ap (λ (x : Play). following 0 [] (played room x text)) (sym (stretch-none p))
 
 -- a byte of a line, where it has room for it
-abbrev with-byte : Play → (b : ℕ) → Play
+abbrev pub with-byte : Play → (b : ℕ) → Play
 with-byte p b = stretched (record { count = 1; line = set (p .line) (p .player .held) b }) p
 
-join-turn : (p : Play) (b : ℕ) → working (p .player .phase) ≡ true → eqb b newline ≡ false → eqb (p .player .held) mostBytes ≡ false
+pub join-turn : (p : Play) (b : ℕ) → working (p .player .phase) ≡ true → eqb b newline ≡ false → eqb (p .player .held) mostBytes ≡ false
     → byteTurn p b ≡ record { play = with-byte p b; event = Nothing }
 unfolding byteTurn
 join-turn p b works other room = rw (works, other, room)

@@ -4,18 +4,17 @@ use mathlib.Core.Path.{_≡_, refl, sym, ap, _∙_}
 use mathlib.Core.Bool.{Bool, true, false, cond, _&&_}
 use mathlib.Core.List.{List, [], _∷_, _++_}
 use Prim.Native.Nat.{ℕ, _+_, _<_, _≤_}
-use native.Mathlib.Numerals.{add-one}
 use native.Mathlib.Omega.{arith}
 use lib.Dec.{eqb}
 use lib.ListN.{length, take, set, length-set}
-use lib.Seq.{take-suc-set}
 use borrow.Author.Tests.{eqb-false}
 use Rattle.records.specs.Records.{attributeWords, portWords}
 use Rattle.column.specs.declared.Answer.{Answer}
 use Rattle.column.specs.Refusals.{numberOf, placeOf}
 use Rattle.text.specs.Bytes.{newline, mostBytes}
 use Rattle.text.specs.Numbers.{lineOf, isWell}
-use Rattle.event.specs.declared.Event.the-variants.{Clocked, Matched, Refused, Ended}
+use Rattle.text.proofs.Lines.{take-set}
+use Rattle.event.specs.declared.Event.the-variants.{Nothing, Clocked, Matched, Refused, Ended}
 use Rattle.event.specs.Lines.{linesOf, outputLine, listed}
 use Rattle.event.specs.Showing.{detects, shown}
 use Rattle.player.specs.declared.Phase.{Phase}
@@ -29,6 +28,7 @@ use Rattle.listing.specs.Steps.{counted, longer, oneMore, clocking, cloc
 use Rattle.listing.specs.Listing.{Play, leaving, settingsLine, settingsOf, clockOf, clockedRegisters, clockedOutputs, placed, lineLeaves, Turn, turnOf, stepping, lineTurn, byteTurn}
 use Rattle.listing.specs.Matching.{turnLines, linesFrom, firstMatch}
 use Rattle.listing.specs.Parts.{playing}
+use Rattle.listing.proofs.Pieces.{with-byte, join-turn}
 use Rattle.listing.proofs.Found.{stopped-none, Some, append-some, not-yet, found, clock-none, clock-match}
 
 -- ---- the two players
@@ -227,15 +227,6 @@ module _ (p : Play) (b : ℕ) (works : working (p .player .phase) ≡ true) wher
   unfolding byteTurn
   too-long-turn e f = rw (works, e, f)
 
-  pub part-turn : eqb b newline ≡ false → eqb (p .player .held) mostBytes ≡ false
-      → byteTurn p b ≡ turnOf (stepping (goesOn (longer 1 (p .player))) p) (set (p .line) (p .player .held) b)
-  unfolding byteTurn
-  part-turn e f = rw (works, e, f)
-
--- one byte more of a line
-pub take-set : (line : List ℕ) (held b : ℕ) → held < length line → take (held + 1) (set line held b) ≡ take held line ++ (b ∷ [])
-take-set line held b h = rw add-one (take-suc-set line held b h)
-
 -- the end of the input, where `A` or `P` lines are due
 ends-alike : (k : ℕ) (q : Player) (f : Phase) → isDue f ≡ true
     → (let ls = linesOf (endIn f q) 0 [] in (linesOf (endIn f (watching k q)) 0 [] ≡ firstMatch k ls) × Some ls)
@@ -280,8 +271,7 @@ module _ (k : ℕ) (p : Play) (bytes text : List ℕ) (a : Alike k p bytes)
 
   -- a byte of a line that has room for it
   part-answers : (b : ℕ) → (p .player .held ≡ mostBytes → ⊥)
-      → TurnAnswers k (turnOf (stepping (goesOn (longer 1 (watching k (p .player)))) (watched k bytes p)) (set bytes (p .player .held) b))
-      (turnOf (stepping (goesOn (longer 1 (p .player))) p) (set (p .line) (p .player .held) b)) text
+      → TurnAnswers k (record { play = with-byte (watched k bytes p) b; event = Nothing }) (record { play = with-byte p b; event = Nothing }) text
   part-answers b room =
       let held = p .player .held in
       let less : held < mostBytes = omega (arith, a .held) in
@@ -309,7 +299,7 @@ module _ (k : ℕ) (p : Play) (bytes text : List ℕ) (a : Alike k p bytes)
           (pair-answers k 0 (p .attributes) (p .registers) (p .ports) (p .outputs) bytes (p .line) text
           (afresh (p .attributes) (p .registers) (p .ports) (p .outputs)) (refuses (p .player) 12 (p .player .lines + 1)))
       go false false e g =
-          rw (part-turn p b works e g, part-turn (watched k bytes p) b works e g) (part-answers b (eqb-false (p .player .held) mostBytes g))
+          rw (join-turn p b works e g, join-turn (watched k bytes p) b works e g) (part-answers b (eqb-false (p .player .held) mostBytes g))
 
 pub answers : (k : ℕ) (text : List ℕ) (p : Play) (bytes : List ℕ) → Alike k p bytes → Answers k (watched k bytes p) p text
 unfolding endOf

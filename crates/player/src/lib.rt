@@ -39,7 +39,8 @@ pub enum Shows {
     FirstMatch(usize),
 }
 
-// The slices, the lines that are given of a group of one a slice, the clocks run, the lines read, and the bytes of the line so far.
+// The slices, the lines that are given of a group of one a slice, the clocks run, the lines read, the bytes of the line so far, and what is
+// shown.
 pub struct Player {
     pub phase: Phase,
     pub count: usize,

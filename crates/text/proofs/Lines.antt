@@ -158,6 +158,10 @@ field-within s at v end e h = go (ltb at (length s)) refl (eqb (getD s at 0) tab
     go true q false e = let z : _≡_ {A = ℕ} 0 1 = cc in omega arith
     go false q u e = let z : _≡_ {A = ℕ} 0 1 = cc in omega arith
 
+-- one more behind those that are known
+pub take-set : (ws : List ℕ) (j v : ℕ) → j < length ws → take (j + 1) (set ws j v) ≡ take j ws ++ (v ∷ [])
+take-set ws j v h = rw add-one (take-suc-set ws j v h)
+
 -- a line that is being read: its first j numbers stand in `into`, and the others are due from a place on
 pub record Reading (letter : ℕ) (s : List ℕ) (n : ℕ) (into : List ℕ) (at j : ℕ) : Type 0 where
   pub within : at ≤ length s
@@ -192,7 +196,7 @@ module _ {letter : ℕ} {s : List ℕ} {n : ℕ} {into : List ℕ} {at j : ℕ} 
   pub turn-more : j < n → {v end : ℕ} → fieldAt s at ≡ Number v end → Reading letter s n (set into j v) end (j + 1)
   turn-more h {v} {end} e =
       let l : j < length into = omega (arith, r .whole) in
-      let next : take (j + 1) (set into j v) ≡ take j into ++ (v ∷ []) = rw add-one (take-suc-set into j v l) in
+      let next : take (j + 1) (set into j v) ≡ take j into ++ (v ∷ []) = take-set into j v l in
       record {
         within = field-within s at v end e (r .within);
         whole = simp length-set (r .whole);
