@@ -11,16 +11,16 @@ LINES = 10000000
 ALL =
 PART =
 # The program that plays listings, where it has been built. On x86-64 it runs as it is, elsewhere under an emulator.
-DSPCOL = $(CURDIR)/target/bin/dspcol
+DSPCOL = $(CURDIR)/crates/dspcol/out/dspcol
 
 all: archive
 
 archive: build/libdsp48e2.a build/dsp48e2.h
 
 build/libdsp48e2.a: crates.txt $(wildcard crates/*/src/*.rt)
-	rt staticlib dsp48e2
+	rt lib dsp48e2
 	mkdir -p build
-	cp target/staticlib/libdsp48e2.a $@
+	cp crates/dsp48e2/out/libdsp48e2.a $@
 
 build/dsp48e2.h: include/dsp48e2.h
 	scripts/check-header
@@ -98,7 +98,7 @@ build/interactive build/first-match build/cuts: build/%: bench/%.c bench/piped.c
 
 # dspcol proved and built, where its crate is and it is not.
 dspcol-built:
-	[ -x '$(DSPCOL)' ] || [ ! -d crates/dspcol ] || rt check dspcol
+	[ -x '$(DSPCOL)' ] || [ ! -d crates/dspcol ] || rt run dspcol </dev/null >/dev/null
 
 # The plain C sides of the benchmark, compiled alike.
 build/listing: model/listing.c model/column.c model/column.h

@@ -44,7 +44,7 @@ def antt_files():
 
 
 def snake(name):
-    name = re.sub(r"(?<=[a-z0-9])([A-Z])", lambda m: "_" + m[1].lower(), name)
+    name = re.sub(r"(?<=[a-z0-9])([A-Z])|(?<=[A-Z])([A-Z])(?=[a-z])", lambda m: "_" + m[0], name).lower()
     return name.replace("-", "_").replace("′", "'")
 
 

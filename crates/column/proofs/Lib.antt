@@ -1,5 +1,6 @@
 pub mod Search
 pub mod Stacks
+pub mod Limits
 pub mod Answers
 pub mod Edges
 pub mod Fits

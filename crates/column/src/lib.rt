@@ -1,5 +1,7 @@
 // One column of 1 to 24 slices: a clock of it, clearing, why a slice's P is what it is, and the checks of its attributes alone.
 // Each takes whatever it is lent, and refuses what is malformed or forbidden by number and lowest slice, with nothing changed.
+#![tactic(auto)]
+
 ghost use Rattle.std.specs.Prelude.{◌≡◌};
 ghost use Rattle.column.specs.Refusals.{number_of, place_of};
 ghost use Rattle.column.specs.Calls.{Clocked, Cleared, why_of};
@@ -18,7 +20,7 @@ pub use settling::Why;
 const MOST_SLICES: usize = 24;
 
 // The checks that look into the lent words: numbers 3 to 9.
-#[derive(Drop)]
+#[derive(Clone, Copy)]
 pub enum Check {
     Attribute,
     Register,
@@ -30,7 +32,7 @@ pub enum Check {
 }
 
 // What a call answers. `Broken` names the check and the lowest slice that fails it; `BadSlice` is an answer of `why` alone.
-#[derive(Drop)]
+#[derive(Clone, Copy)]
 pub enum Answer {
     Accepted,
     BadCount,

@@ -11,7 +11,7 @@ use crate::{Answer, Check, MOST_SLICES};
 use legal::Rule;
 use records::{Attributes, Outputs, Ports, Registers};
 
-#[derive(Drop)]
+#[derive(Clone, Copy)]
 pub enum Found {
     Nothing,
     At(usize),
@@ -32,6 +32,7 @@ pub fn check_number(check: Check) -> u64
 }
 
 // The limit check: the lowest slice that has a word over its width.
+#[tactic(auto, using(crate::proofs::Limits::first_over_here))]
 fn first_over(widths: &[u64], words: &[u64], count: usize) -> Found
     requires { Table widths.now words.now count }
     ensures { result ≡ lowest (over widths.now words.now) count }
@@ -137,6 +138,7 @@ fn nothing_broken(count: usize, attributes: &[u64], registers: &[u64], ports: &[
 }
 
 // Checks 6 to 9, in their order.
+#[tactic(auto, unfolding(crate::specs::Refusals::rules, crate::specs::Refusals::fails, crate::specs::Refusals::broken, crate::specs::Parts::breaks_at))]
 fn rules_answer(count: usize, attributes: &[u64], registers: &[u64], ports: &[u64]) -> Answer
     requires { (count ≤ 24) × Lengths count attributes.now registers.now ports.now }
     ensures { result ≡ rules count attributes.now registers.now ports.now }
@@ -152,6 +154,7 @@ fn rules_answer(count: usize, attributes: &[u64], registers: &[u64], ports: &[u6
 }
 
 // Checks 3 to 9, in their order.
+#[tactic(auto, unfolding(crate::specs::Refusals::settings, crate::specs::Refusals::fails, crate::specs::Refusals::broken, crate::specs::Parts::over))]
 fn settings_answer(count: usize, attributes: &[u64], registers: &[u64], ports: &[u64]) -> Answer
     requires { (count ≤ 24) × Lengths count attributes.now registers.now ports.now }
     ensures { result ≡ settings count attributes.now registers.now ports.now }
@@ -171,6 +174,7 @@ fn count_fits(count: usize) -> bool
     (1 <= count) & (count <= MOST_SLICES)
 }
 
+#[tactic(auto, unfolding(crate::specs::Refusals::lengths_fit))]
 fn lengths_fit(
     count: usize,
     attributes: &[u64],
@@ -188,6 +192,7 @@ fn lengths_fit(
 }
 
 // The checks of a clock, in their order.
+#[tactic(auto, unfolding(crate::specs::Refusals::clock_answer))]
 pub fn clock_answer(
     count: usize,
     attributes: &[u64],
@@ -209,6 +214,7 @@ pub fn clock_answer(
     settings_answer(count, attributes, registers, ports)
 }
 
+#[tactic(auto, unfolding(crate::specs::Refusals::inputs_fit))]
 fn inputs_fit(count: usize, attributes: &[u64], registers: &[u64], ports: &[u64]) -> bool
     requires { count ≤ 24 }
     ensures { result ≡ inputs_fit count attributes.now registers.now ports.now }
@@ -219,6 +225,7 @@ fn inputs_fit(count: usize, attributes: &[u64], registers: &[u64], ports: &[u64]
 }
 
 // The checks of `why` that come before the clock's 3 to 9, in their order.
+#[tactic(auto, unfolding(crate::specs::Parts::asked_answer))]
 pub fn asked_answer(
     count: usize,
     attributes: &[u64],
@@ -241,6 +248,7 @@ pub fn asked_answer(
 }
 
 // The checks of clearing, in their order.
+#[tactic(auto, unfolding(crate::specs::Refusals::clear_answer))]
 pub fn clear_answer(count: usize, registers: &[u64]) -> Answer
     ensures { result ≡ clear_answer count registers.now }
 {
@@ -254,6 +262,7 @@ pub fn clear_answer(count: usize, registers: &[u64]) -> Answer
 }
 
 // Checks 1 to 3 of a column's attributes alone.
+#[tactic(auto, unfolding(crate::specs::Refusals::attributes_answer))]
 pub fn attributes_answer(count: usize, attributes: &[u64]) -> Answer
     ensures { result ≡ attributes_answer count attributes.now }
 {

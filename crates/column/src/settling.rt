@@ -13,7 +13,7 @@ use records::{Attributes, Outputs, Ports, Registers};
 use slice::Cascade;
 
 // What `why` tells: its answer, and the reason, which is zeros where the answer is a refusal.
-#[derive(Drop)]
+#[derive(Clone, Copy)]
 pub struct Why {
     pub answer: Answer,
     pub reason: Reason,
@@ -65,6 +65,7 @@ pub fn clock_answer(count: usize, attributes: &[u64], registers: &[u64], ports: 
 }
 
 // What a slice hands up.
+#[tactic(auto, unfolding(slice::specs::Slice::slice_cascade, slice::specs::Slice::slice_outputs, slice::specs::Slice::outputs_of_settled, slice::specs::Slice::slice_settled, slice::specs::Slice::settled_of, reason::specs::Reason::reason_of))]
 fn handed_up(a: Attributes, r: Registers, p: Ports, below: Cascade) -> Cascade
     ensures { result ≡ slice_cascade a r p below }
 {
@@ -77,6 +78,7 @@ fn handed_up(a: Attributes, r: Registers, p: Ports, below: Cascade) -> Cascade
 }
 
 // What slice k gets from the slice below.
+#[tactic(auto, unfolding(crate::specs::Column::cascade_into))]
 fn cascade_into(attributes: &[u64], registers: &[u64], ports: &[u64], k: usize) -> Cascade
     requires { Reaches k attributes.now registers.now ports.now }
     ensures { result ≡ cascade_into attributes.now registers.now ports.now k }
@@ -99,6 +101,7 @@ fn cascade_into(attributes: &[u64], registers: &[u64], ports: &[u64], k: usize) 
 }
 
 // The reason of slice k's result.
+#[tactic(auto, unfolding(crate::specs::Calls::reason_at))]
 pub fn reason_at(attributes: &[u64], registers: &[u64], ports: &[u64], k: usize) -> Reason
     requires { Reaches k attributes.now registers.now ports.now }
     ensures { result ≡ reason_at attributes.now registers.now ports.now k }

@@ -1,4 +1,6 @@
 // The border for C: the calls on plain numbers and lent words. A refusal is 2^48 + 256 * place + number in the returned word.
+#![tactic(auto)]
+
 ghost use Rattle.std.specs.Prelude.{◌≡◌, ◌<◌};
 ghost use Rattle.unit.specs.Unit.{adder};
 ghost use Rattle.column.specs.Refusals.{place_of};
@@ -18,6 +20,7 @@ fn refused(place: usize, number: u64) -> u64
 }
 
 // The returned word of an answer.
+#[tactic(auto, unfolding(crate::specs::Border::word_of))]
 fn word_of(answer: Answer) -> u64
     requires { place_of answer < 24 }
     ensures { result ≡ word_of answer }
@@ -60,6 +63,7 @@ pub extern "C" fn dsp_clear(count: u64, registers: &mut [u64]) -> u64
 }
 
 // A `why` of another length is number 2, which only 1 comes before.
+#[tactic(auto, unfolding(crate::specs::Border::why_lent))]
 fn why_lent(fits: bool, answer: Answer) -> Answer
     ensures { result ≡ why_lent fits answer }
 {
@@ -91,6 +95,7 @@ pub extern "C" fn dsp_why(
 }
 
 // The returned word of a packed run.
+#[tactic(auto, unfolding(crate::specs::Border::run_word))]
 fn run_word(run: Run) -> u64
     requires { runPlace run < most_rows }
     ensures { result ≡ run_word run }

@@ -1,8 +1,11 @@
 // Plays the port listing on standard input and writes what it prints. Everything that matters is in the crate `listing`; here is the
 // reading and writing, of which no contract can speak.
+#![tactic(auto)]
+
 ghost use Rattle.std.specs.Prelude.{◌≤◌, length};
 
-use libc::{STDIN_FILENO, STDOUT_FILENO};
+use std::io;
+use std::io::Read;
 
 // What a player is lent, zeros to begin with. Functions, so that a proof sees a name and not each zero.
 fn attributes() -> [u64; listing::ATTRIBUTES] {
@@ -25,18 +28,26 @@ fn line() -> [u8; listing::LINE] {
     [0; listing::LINE]
 }
 
+// Says on standard error what failed and why. Where that can't be written either, there is nobody to tell.
+fn fail(rt: &impl Eprint, what: &str, error: io::Error) {
+    let _told = eprintln!(rt; "dspcol: {what}: {error}");
+}
+
 // Writes to standard output, and answers whether that went well.
-fn written(bytes: &[u8]) -> bool {
-    if io::write_all(STDOUT_FILENO, bytes) {
-        return true;
+fn written(rt: &(impl Print + Eprint), bytes: &[u8]) -> bool {
+    match rt.write_all(bytes) {
+        Ok(()) => true,
+        Err(error) => {
+            fail(rt, "can't write", error);
+            false
+        }
     }
-    os::fail(b"dspcol: can't write");
-    false
 }
 
 // Plays as much of a piece as `out` has room for, and writes what that prints. Answers how many bytes it took: 0 where there is no more
 // to play.
 fn part_played(
+    rt: &(impl Print + Eprint),
     piece: &[u8],
     numbers: &mut [u64],
     attributes: &mut [u64],
@@ -52,7 +63,7 @@ fn part_played(
         piece, numbers, attributes, registers, ports, outputs, line, out,
     );
     let made = part.made;
-    if written(&out[..made]) & part.goes {
+    if written(rt, &out[..made]) & part.goes {
         return part.used;
     }
     0
@@ -60,6 +71,7 @@ fn part_played(
 
 // Plays a piece and writes all that it prints, before more is read. Answers whether there is more to play.
 fn piece_played(
+    rt: &(impl Print + Eprint),
     piece: &[u8],
     numbers: &mut [u64],
     attributes: &mut [u64],
@@ -72,6 +84,7 @@ fn piece_played(
     let mut from = 0;
     while from < piece.len() {
         let used = part_played(
+            rt,
             &piece[from..],
             numbers,
             attributes,
@@ -91,6 +104,7 @@ fn piece_played(
 
 // Reads once, and plays what came. Answers whether there is more to read. A failed read is not the end of the input.
 fn turn(
+    rt: &(impl Input + Print + Eprint),
     text: &mut [u8],
     numbers: &mut [u64],
     attributes: &mut [u64],
@@ -100,18 +114,20 @@ fn turn(
     line: &mut [u8],
     out: &mut [u8],
 ) -> bool {
-    let got = libc::read(STDIN_FILENO, text);
-    if got < 0 {
-        os::fail(b"dspcol: can't read");
-        return false;
-    }
-    let n = io::count(got, &text[..]);
+    let n = match rt.reader().read(text) {
+        Ok(n) => n,
+        Err(error) => {
+            fail(rt, "can't read", error);
+            return false;
+        }
+    };
     if n == 0 {
         let made = listing::finish(&numbers[..], out);
-        written(&out[..made]);
+        written(rt, &out[..made]);
         return false;
     }
     piece_played(
+        rt,
         &text[..n],
         numbers,
         attributes,
@@ -125,6 +141,7 @@ fn turn(
 
 // Turns until there is no more to read. A proved loop has to end, so it counts down from a number that no input uses up.
 fn turns(
+    rt: &(impl Input + Print + Eprint),
     text: &mut [u8],
     numbers: &mut [u64],
     attributes: &mut [u64],
@@ -137,7 +154,7 @@ fn turns(
     let mut left = u64::MAX;
     while 0 < left {
         if !turn(
-            text, numbers, attributes, registers, ports, outputs, line, out,
+            rt, text, numbers, attributes, registers, ports, outputs, line, out,
         ) {
             return;
         }
@@ -145,9 +162,14 @@ fn turns(
     }
 }
 
-fn main() {
-    let mut text = io::large_buffer();
-    let mut out = io::large_buffer();
+// How much is read at a time, and what is printed at a time.
+fn buffer() -> [u8; 65536] {
+    [0; 65536]
+}
+
+fn main(rt: HostRuntime) {
+    let mut text = buffer();
+    let mut out = buffer();
     let mut numbers = [0u64; listing::NUMBERS];
     let mut attributes = attributes();
     let mut registers = registers();
@@ -155,6 +177,7 @@ fn main() {
     let mut outputs = outputs();
     let mut line = line();
     turns(
+        &rt,
         &mut text,
         &mut numbers,
         &mut attributes,

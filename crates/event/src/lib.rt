@@ -1,4 +1,6 @@
 // What happened in a step of a listing, what there is to show of it, and its bytes. Both calls take whatever they are given.
+#![tactic(auto)]
+
 ghost use Rattle.std.specs.Prelude.{◌+◌, ◌*◌, ◌≤◌, length};
 ghost use Rattle.records.specs.Records.{output_words};
 ghost use Rattle.text.specs.Printed.{Put};
@@ -12,7 +14,7 @@ use records::Outputs;
 pub use showing::shown;
 
 // A clock by its number (its outputs are lent); the first match by its clock; a refusal by number, clocks run and place; the clocks run.
-#[derive(Drop)]
+#[derive(Clone, Copy)]
 pub enum Event {
     Nothing,
     Clocked(u64),

@@ -1,6 +1,6 @@
 -- Words that are joined by `or` and shifted down, the widest first, leave nothing exactly where each is within its width: so do a slice's
 -- words, by the tables. Assumes nothing.
-use Rattle.std.proofs.Common.{◌≡◌, ℕ, zero, suc, ◌+◌, ◌/◌, ◌^◌, ◌<◌, true, false, not, ◌&&◌, eqb, ltb, List, [], ◌∷◌, ◌++◌, length, sym, refl, ap, ◌∙◌, subst, div-lt_iff_lt-mul, add_comm, arith, lit<, pow_pos, pow-add, ltb-true, lt-ltb, eq-eqb, eqb-true}
+use Rattle.std.proofs.Common.{◌≡◌, ℕ, zero, suc, ◌+◌, ◌/◌, ◌^◌, ◌<◌, true, false, not, ◌&&◌, eqb, ltb, List, [], ◌∷◌, ◌++◌, length, refl, ap, ◌∙◌, subst, div-lt_iff_lt-mul, add_comm, arith, lit<, pow_pos, pow-add, ltb-true, lt-ltb, eq-eqb, eqb-true}
 use lib.Bits.{bit_or, or_add_and, and_le_l, and_le_r, or_lt}
 use borrow.Author.Tests.{not-true}
 use Rattle.word.proofs.Laws.{same_test, both_true}

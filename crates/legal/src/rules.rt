@@ -6,7 +6,7 @@ use records::{Attributes, Ports, Registers};
 use slice::{Controls, Selects};
 
 // The checks of a slice's settings, numbers 6 to 9.
-#[derive(Drop)]
+#[derive(Clone, Copy)]
 pub enum Rule {
     Inmode,
     Opmode,

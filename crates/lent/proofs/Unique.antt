@@ -4,16 +4,16 @@ use mathlib.Core.Path.{◌≡◌, sym, ◌∙◌}
 use contract.Lifetimes.{Lfts}
 use denote.Triple.Clauses.{AtExit}
 use borrow.Fn.Kinds.{Dens, res_t, ended_of}
-use Rattle.lent.proofs.store.Kinds as store
-use Rattle.lent.proofs.store.Reads as store-reads
-use Rattle.lent.proofs.zero.Kinds as zero
-use Rattle.lent.proofs.zero.Reads as zero-reads
+use Rattle.lent.proofs.store.Kinds as store_kinds
+use Rattle.lent.proofs.store.Reads as store_reads
+use Rattle.lent.proofs.zero.Kinds as zero_kinds
+use Rattle.lent.proofs.zero.Reads as zero_reads
 
 -- x.0 is the lent words at exit
-pub store_once : (κs : Lfts 2) (args : Dens κs store.ps) (r₁ r₂ : (res_t store.r κs).Denot) (x₁ x₂ : AtExit (ended_of 2 store.ps store.r) κs)
-    → store-reads.Post κs args r₁ x₁ → store-reads.Post κs args r₂ x₂ → x₁.0.now ≡ x₂.0.now
+pub store_once : (κs : Lfts 2) (args : Dens κs store_kinds.ps) (r₁ r₂ : (res_t store_kinds.r κs).Denot) (x₁ x₂ : AtExit (ended_of 2 store_kinds.ps store_kinds.r) κs)
+    → store_reads.Post κs args r₁ x₁ → store_reads.Post κs args r₂ x₂ → x₁.0.now ≡ x₂.0.now
 store_once κs args r₁ r₂ x₁ x₂ a b = a ∙ sym b
 
-pub zero_once : (κs : Lfts 1) (args : Dens κs zero.ps) (r₁ r₂ : (res_t zero.r κs).Denot) (x₁ x₂ : AtExit (ended_of 1 zero.ps zero.r) κs)
-    → zero-reads.Post κs args r₁ x₁ → zero-reads.Post κs args r₂ x₂ → x₁.0.now ≡ x₂.0.now
+pub zero_once : (κs : Lfts 1) (args : Dens κs zero_kinds.ps) (r₁ r₂ : (res_t zero_kinds.r κs).Denot) (x₁ x₂ : AtExit (ended_of 1 zero_kinds.ps zero_kinds.r) κs)
+    → zero_reads.Post κs args r₁ x₁ → zero_reads.Post κs args r₂ x₂ → x₁.0.now ≡ x₂.0.now
 zero_once κs args r₁ r₂ x₁ x₂ a b = a ∙ sym b

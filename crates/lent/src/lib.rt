@@ -1,4 +1,6 @@
 // Lent words: what every call that writes them does. Each takes whatever it is lent.
+#![tactic(auto)]
+
 ghost use Rattle.std.specs.Prelude.{◌≡◌, length, replicate};
 ghost use Rattle.lent.specs.Words.{stored};
 

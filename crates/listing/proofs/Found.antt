@@ -7,9 +7,7 @@ use native.Mathlib.Omega.{arith}
 use lib.Dec.{eqb}
 use lib.ListN.{get_or}
 use borrow.Author.Tests.{eqb-true, eqb-false, ne_eqb}
-use Rattle.records.specs.Records.{output_words}
-use Rattle.column.specs.Column.{stretch}
-use Rattle.event.specs.Letters.{letter_o, letter_m}
+use Rattle.event.specs.Letters.{letter_m}
 use Rattle.event.specs.Lines.{Line, line_with, output_line, listed, lines_of, printed_lines}
 use Rattle.event.specs.Showing.{detects}
 use Rattle.event.proofs.Printing.{printed_append}

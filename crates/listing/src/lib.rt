@@ -1,5 +1,7 @@
 // Plays a port listing that comes in pieces of any size. All that is known between two pieces stands in lent words and bytes, which are
 // zeros to begin with. Both calls take whatever they are lent.
+#![tactic(auto)]
+
 ghost use Rattle.listing.specs.Calls.{lending, PiecePlayed, Finished};
 
 mod letters;
@@ -8,7 +10,7 @@ mod machine;
 mod steps;
 
 // What a piece led to: the bytes of it that were taken, the bytes that were printed, and whether there is more to play.
-#[derive(Drop)]
+#[derive(Clone, Copy)]
 pub struct Played {
     pub used: usize,
     pub made: usize,

@@ -30,6 +30,7 @@ fn quiet(player: Player) -> Step
 }
 
 // The step where a check's answer is `Accepted`, else a refusal by its number and slice.
+#[tactic(auto, unfolding(crate::specs::Steps::answered))]
 fn answered(q: Player, answer: column::Answer, accepted: Step) -> Step
     ensures { result ≡ answered q answer accepted }
 {
@@ -51,6 +52,7 @@ fn shows_within(shows: Shows, count: usize) -> bool
 }
 
 // An `N` line's numbers: number 1, and then 13, are checked as soon as it is read.
+#[tactic(auto, unfolding(crate::specs::Steps::begin_step))]
 fn begin(q: Player, count: u64, shows: Shows) -> Step
     ensures { result ≡ begin_step q count shows }
 {
@@ -67,6 +69,7 @@ fn begin(q: Player, count: u64, shows: Shows) -> Step
 }
 
 // The `N` line: the count, and the slice whose first match is looked for, if there is one.
+#[tactic(auto, unfolding(crate::specs::Steps::head_step))]
 fn take_head(q: Player, line: &[u8]) -> Step
     ensures { result ≡ head_step q (line_of letter_n 2 line.now) (line_of letter_n 1 line.now) }
 {

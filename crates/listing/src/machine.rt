@@ -28,7 +28,7 @@ fn gathered(piece: &[u8], from: usize, line: &mut [u8], held: usize) -> usize
 }
 
 // Where a stretch of bytes ends, and the player there.
-#[derive(Drop)]
+#[derive(Clone, Copy)]
 struct Reach {
     player: Player,
     used: usize,
@@ -54,7 +54,7 @@ fn up_to_end(q: Player, piece: &[u8], from: usize, line: &mut [u8]) -> Reach
 }
 
 // What a run of bytes led to.
-#[derive(Drop)]
+#[derive(Clone, Copy)]
 pub struct Run {
     pub player: Player,
     pub used: usize,

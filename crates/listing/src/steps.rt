@@ -8,7 +8,7 @@ use event::Event;
 use player::{Phase, Player, Shows};
 
 // What a line leaves: the player, and what there is to print.
-#[derive(Drop)]
+#[derive(Clone, Copy)]
 pub struct Step {
     pub player: Player,
     pub event: Event,
@@ -181,6 +181,7 @@ fn end_in(phase: Phase, player: Player) -> Event
 }
 
 // What there is to print where the input ends.
+#[tactic(auto, unfolding(crate::specs::Steps::end_of))]
 pub fn end_of(player: Player) -> Event
     requires { player.lines < count_bound }
     ensures { result ≡ end_of player }

@@ -129,6 +129,16 @@ module _ (g : Batch) (answers : ℕ) (list : Bool) where
         ran = λ n. is.goes_on_lem (refuse_row (lowest (overfull g) g.rows) (Ran n)) ∙ rw none;
       }
 
+  -- as a run has it: its sizes are right; there are fewer than eight terms, or the rows are looked at
+  pub ran_sized : {n : ℕ} → Ran n ≡ sized g answers list (Ran 0) → Sized
+  ran_sized e = (fits (Ran 0) (ap number_of (sym e))).0
+
+  pub few_passed : Sized → g.terms < most_terms → Passed
+  few_passed is h = passed is (few_terms g h)
+
+  pub looked_passed : {r : Run} {n : ℕ} → Sized → Looked g r → r ≡ Ran n → Passed
+  looked_passed {r} {n} is found ran = passed is (looked_none g r n (is.looked r found) ran)
+
   pub all_passed : (m : ℕ) → number_of (checked g answers list m) ≡ 0 → Passed
   unfolding checked
   all_passed m accepted =
@@ -180,6 +190,13 @@ refusal BadTerms h = lit< tt
 refusal BadRows h = lit< tt
 refusal BadLength h = lit< tt
 refusal (Overfull row) h = lit< tt
+
+pub not_ran : (r : Run) → ((n : ℕ) → r ≡ Ran n → ⊥) → 0 < number_of r
+not_ran (Ran n) h = absurd (h n refl)
+not_ran BadTerms h = lit< tt
+not_ran BadRows h = lit< tt
+not_ran BadLength h = lit< tt
+not_ran (Overfull row) h = lit< tt
 
 -- ---- areas
 

@@ -12,7 +12,7 @@ pub const MOST_TERMS: usize = 8;
 pub const MOST_ROWS: usize = 4096;
 
 // How long a list a run is lent; the plain run has none.
-#[derive(Drop)]
+#[derive(Clone, Copy)]
 pub enum ListLength {
     NoList,
     Words(usize),
@@ -31,6 +31,7 @@ fn rows_fit(rows: usize) -> bool
 }
 
 // Terms and rows are within their bounds, so no product here wraps.
+#[tactic(auto, unfolding(crate::specs::Calls::lengths_fit))]
 fn lengths_fit(terms: usize, rows: usize, a: &[i8], d: &[i8], b: &[i8], answers: usize) -> bool
     requires { (terms ≤ most_terms) × (rows ≤ most_rows) }
     ensures { result ≡ lengths_fit (batch terms rows a.now d.now b.now) answers }
@@ -50,6 +51,7 @@ fn list_fits(terms: usize, rows: usize, list: ListLength) -> bool
 }
 
 // `Ran(0)`: the terms, the rows and the lengths are right, and no clock is stepped yet.
+#[tactic(auto, unfolding(crate::specs::Calls::sized))]
 pub fn run_answer(
     terms: usize,
     rows: usize,

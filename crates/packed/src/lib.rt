@@ -1,5 +1,7 @@
 // The packed run: two exact dot products a row, of signed 8-bit numbers, by one column of slices or worked out directly.
 // Both runs take whatever they are lent, and refuse by number what is malformed, with nothing written.
+#![tactic(auto)]
+
 ghost use Rattle.std.specs.Prelude.{◌≡◌};
 ghost use Rattle.packed.specs.Packed.{batch};
 ghost use Rattle.packed.specs.Calls.{number_of, clocks_of, place_of, ClockedDone, PlainDone};
@@ -14,7 +16,7 @@ mod plain;
 use checks::ListLength;
 
 // What a run answers: `Ran` has the clocks that it stepped, `Overfull` the lowest row whose low sum does not fit.
-#[derive(Drop)]
+#[derive(Clone, Copy)]
 pub enum Run {
     Ran(u64),
     BadTerms,

@@ -1,5 +1,7 @@
 // A player's numbers: the kind of line that is due, the counts, and what it shows; and the lent words that they are between two pieces.
 // Every call takes whatever it is given.
+#![tactic(auto)]
+
 ghost use Rattle.std.specs.Prelude.{◌≡◌};
 ghost use Rattle.lent.specs.Words.{enough, stored};
 ghost use Rattle.player.specs.Numbers.{working, phase_number, phase_of, shows_number, watched, shows_of, player_numbers, player_words, player_of};
@@ -24,7 +26,7 @@ pub const OUTPUTS: usize = Outputs::WORDS * MOST_SLICES;
 pub const LINE: usize = 512;
 
 // The kind of line that is due: `N`, `A` or `P`; none after a refusal or a match.
-#[derive(Drop)]
+#[derive(Clone, Copy)]
 pub enum Phase {
     Head,
     Settings,
@@ -33,7 +35,7 @@ pub enum Phase {
 }
 
 // What is shown of a clock: every slice's outputs; or the first in which a chosen slice shows PATTERNDETECT, and nothing of the others.
-#[derive(Drop)]
+#[derive(Clone, Copy)]
 pub enum Shows {
     Outputs,
     FirstMatch(usize),
@@ -41,7 +43,7 @@ pub enum Shows {
 
 // The slices, the lines that are given of a group of one a slice, the clocks run, the lines read, the bytes of the line so far, and what is
 // shown.
-#[derive(Drop)]
+#[derive(Clone, Copy)]
 pub struct Player {
     pub phase: Phase,
     pub count: usize,

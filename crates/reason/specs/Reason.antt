@@ -98,23 +98,23 @@ held_values a r s x m places =
 -- ---- rules
 
 -- a logic mode's rule goes by Y: Y 0, then Y all ones
-abbrev pub by_yRule : (y : ℕ) → (zeros ones : Rule) → Rule
-by_yRule y zeros ones = cond (eqb y 0) zeros ones
+abbrev pub by_y_rule : (y : ℕ) → (zeros ones : Rule) → Rule
+by_y_rule y zeros ones = cond (eqb y 0) zeros ones
 
 -- The rule of each mode: arithmetic 0 to 3, then the logic rows, Y 0 and Y all ones
 unfoldable pub rule_of : (mode y : ℕ) → Rule
 rule_of mode y =
     get_or
     (Sum ∷ SumNotZ ∷ NotSum ∷ Difference
-    ∷ by_yRule y Xor Xnor  -- 4
-    ∷ by_yRule y Xnor Xor  -- 5
-    ∷ by_yRule y Xnor Xor  -- 6
-    ∷ by_yRule y Xor Xnor  -- 7
+    ∷ by_y_rule y Xor Xnor  -- 4
+    ∷ by_y_rule y Xnor Xor  -- 5
+    ∷ by_y_rule y Xnor Xor  -- 6
+    ∷ by_y_rule y Xor Xnor  -- 7
     ∷ NoRule ∷ NoRule ∷ NoRule ∷ NoRule  -- 8 to 11 are refused
-    ∷ by_yRule y And Or  -- 12
-    ∷ by_yRule y AndNotZ OrNotZ  -- 13
-    ∷ by_yRule y Nand Nor  -- 14
-    ∷ by_yRule y NotXOrZ NotXAndZ  -- 15
+    ∷ by_y_rule y And Or  -- 12
+    ∷ by_y_rule y AndNotZ OrNotZ  -- 13
+    ∷ by_y_rule y Nand Nor  -- 14
+    ∷ by_y_rule y NotXOrZ NotXAndZ  -- 15
     ∷ [])
     mode
     NoRule

@@ -1,5 +1,7 @@
 // Why a slice's P is what it is: the unit's operands, the place that each was selected from, the rule by which the unit works,
 // and its result. Every function takes every number.
+#![tactic(auto)]
+
 ghost use Rattle.std.specs.Prelude.{◌≡◌};
 ghost use Rattle.reason.specs.Reason.{reason_of, no_reason, reason_words};
 
@@ -13,7 +15,7 @@ pub use places::{Place, Places};
 pub use rules::Rule;
 
 // The operands, where each comes from, the rule with its lanes (USE_SIMD), and the unit's result.
-#[derive(Drop)]
+#[derive(Clone, Copy)]
 pub struct Reason {
     pub values: Operands,
     pub places: Places,
@@ -51,6 +53,7 @@ impl Reason {
     }
 
     // As words: the five values, their five places, the rule, the lanes, the result.
+    #[tactic(auto, unfolding(crate::specs::Reason::reason_words))]
     pub fn words(self) -> [u64; Reason::WORDS]
         ensures { result ≡ reason_words self }
     {

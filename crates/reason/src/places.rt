@@ -9,7 +9,7 @@ use slice::{Cascade, Controls, Operands, Paths};
 
 // An entry of a select: 0, M, P, A:B, all ones, C, PCIN, PCIN shifted, P shifted, RND, the CARRYIN path, a sign or its
 // complement, the carry of the slice below.
-#[derive(Drop)]
+#[derive(Clone, Copy)]
 pub enum Place {
     Zero,
     M,
@@ -30,7 +30,7 @@ pub enum Place {
 }
 
 // The place of each operand.
-#[derive(Drop)]
+#[derive(Clone, Copy)]
 pub struct Places {
     pub w: Place,
     pub x: Place,
@@ -120,6 +120,7 @@ fn cin_place(select: u64) -> Place
 }
 
 // Where the operands come from, by the control words in effect.
+#[tactic(auto, unfolding(crate::specs::Reason::places_of))]
 pub fn places_of(k: Controls) -> Places
     ensures { result ≡ places_of k }
 {
@@ -142,6 +143,7 @@ fn sign(n: u64) -> u64
 }
 
 // What a place holds, of the slice's paths s, the cascade x and the M path m.
+#[tactic(auto, unfolding(crate::specs::Reason::held_at))]
 fn value_at(place: Place, a: Attributes, r: Registers, s: Paths, x: Cascade, m: u64) -> u64
     ensures { result ≡ held_at a r s x m place }
 {
@@ -166,6 +168,7 @@ fn value_at(place: Place, a: Attributes, r: Registers, s: Paths, x: Cascade, m: 
 }
 
 // What the operands' places hold.
+#[tactic(auto, unfolding(crate::specs::Reason::held_values))]
 pub fn values_at(
     places: Places,
     a: Attributes,

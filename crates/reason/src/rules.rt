@@ -1,13 +1,13 @@
 // The rules of the unit: one for each arithmetic mode, and one for each function that a logic mode's row gives.
 ghost use Rattle.std.specs.Prelude.{◌≡◌};
-ghost use Rattle.reason.specs.Reason.{rule_number, by_yRule, rule_of, applied};
+ghost use Rattle.reason.specs.Reason.{rule_number, by_y_rule, rule_of, applied};
 
 use slice::Operands;
 
 const ONES: u64 = 0xffff_ffff_ffff;
 
 // `NoRule` is of a refused mode, and of a refused call.
-#[derive(Drop)]
+#[derive(Clone, Copy)]
 pub enum Rule {
     NoRule,
     Sum,
@@ -50,11 +50,12 @@ pub fn rule_number(rule: Rule) -> u64
 
 // A logic mode's rule goes by Y.
 fn by_y(y: u64, zeros: Rule, ones: Rule) -> Rule
-    ensures { result ≡ by_yRule y zeros ones }
+    ensures { result ≡ by_y_rule y zeros ones }
 {
     if y == 0 { zeros } else { ones }
 }
 
+#[tactic(auto, unfolding(crate::specs::Reason::rule_of))]
 pub fn rule_of(mode: u64, y: u64) -> Rule
     ensures { result ≡ rule_of mode y }
 {
@@ -76,6 +77,7 @@ pub fn rule_of(mode: u64, y: u64) -> Rule
 }
 
 // What a rule makes of the operands: an arithmetic one in its lanes, a logic one on the 48 bits of X and Z.
+#[tactic(auto, unfolding(crate::specs::Reason::applied))]
 pub fn applied(rule: Rule, simd: u64, o: Operands) -> u64
     ensures { result ≡ applied rule simd o }
 {

@@ -1,11 +1,13 @@
 // The four records of a slice (01, "The lent words"): their words by name and in their order, how many they are and how wide,
 // the record of a stretch of lent words, its words put there, and the cleared slice.
+#![tactic(auto)]
+
 ghost use Rattle.std.specs.Prelude.{◌≡◌, ◌≤◌, length, replicate};
 ghost use Rattle.lent.specs.Words.{enough, stored};
 ghost use Rattle.records.specs.Records.{attribute_words, attributes_of, attributes_words, register_words, registers_of, registers_words, port_words, ports_of, ports_words, output_words, outputs_of, outputs_words};
 
 // A slice's settings.
-#[derive(Drop)]
+#[derive(Clone, Copy)]
 pub struct Attributes {
     pub areg: u64,
     pub breg: u64,
@@ -139,7 +141,7 @@ impl Attributes {
 }
 
 // What a slice holds between edges.
-#[derive(Drop)]
+#[derive(Clone, Copy)]
 pub struct Registers {
     pub a1: u64,
     pub a2: u64,
@@ -317,7 +319,7 @@ impl Registers {
 }
 
 // What a slice is given in a clock.
-#[derive(Drop)]
+#[derive(Clone, Copy)]
 pub struct Ports {
     pub a: u64,
     pub b: u64,
@@ -405,7 +407,7 @@ impl Ports {
 }
 
 // What a slice shows in a clock.
-#[derive(Drop)]
+#[derive(Clone, Copy)]
 pub struct Outputs {
     pub p: u64,
     pub patterndetect: u64,

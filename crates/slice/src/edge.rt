@@ -13,7 +13,7 @@ use records::{Attributes, Outputs, Ports, Registers};
 use unit::WithCarry;
 
 // What settles: AD, M, P, PD, PBD and the carry's register load it; the pre-adder's mark is shown and held nowhere.
-#[derive(Drop)]
+#[derive(Clone, Copy)]
 pub struct Settled {
     pub ad: u64,
     pub wrap: u64,
@@ -25,13 +25,14 @@ pub struct Settled {
 }
 
 // What a slice gives away in a clock: the outputs, and what the slice above gets.
-#[derive(Drop)]
+#[derive(Clone, Copy)]
 pub struct Step {
     pub shown: Outputs,
     pub up: Cascade,
 }
 
 // The carry that settles beside the unit's result.
+#[tactic(auto, unfolding(crate::specs::Slice::settled_carry))]
 pub fn settled_carry(a: Attributes, k: Controls, o: Operands) -> u64
     ensures { result ≡ settled_carry a k o }
 {
@@ -40,8 +41,9 @@ pub fn settled_carry(a: Attributes, k: Controls, o: Operands) -> u64
 }
 
 // The unit's result and the carry.
+#[tactic(auto, unfolding(crate::specs::Slice::result_of, crate::specs::Slice::settled_carry, unit::specs::Unit::summed_of))]
 fn summed(a: Attributes, k: Controls, o: Operands) -> WithCarry
-    ensures* { λ v. ⌜ v ≡ record { result = result_of a.use_simd k.alumode o; carry = settled_carry a k o } ⌝ }
+    ensures { result ≡ record { result = result_of a.use_simd k.alumode o; carry = settled_carry a k o } }
 {
     let select = selects_of(k.opmode);
     unit::summed(
@@ -50,6 +52,7 @@ fn summed(a: Attributes, k: Controls, o: Operands) -> WithCarry
 }
 
 // The detector, on the unit's result.
+#[tactic(auto, unfolding(crate::specs::Slice::settled_of))]
 fn settled_from(a: Attributes, t: Product, sum: WithCarry) -> Settled
     ensures { result ≡ settled_of a t sum.result sum.carry }
 {
@@ -65,6 +68,7 @@ fn settled_from(a: Attributes, t: Product, sum: WithCarry) -> Settled
     }
 }
 
+#[tactic(auto, unfolding(crate::specs::Slice::outputs_of_settled))]
 fn shown(a: Attributes, r: Registers, t: Settled) -> Outputs
     ensures { result ≡ outputs_of_settled a r t }
 {
@@ -82,6 +86,7 @@ fn shown(a: Attributes, r: Registers, t: Settled) -> Outputs
     }
 }
 
+#[tactic(auto, unfolding(crate::specs::Slice::cascade_of))]
 fn handed_up(a: Attributes, r: Registers, s: Paths, p: u64, carry: u64) -> Cascade
     ensures { result ≡ cascade_of a r s p carry }
 {
@@ -101,6 +106,7 @@ pub fn cascade_of(a: Attributes, r: Registers, s: Paths, res: u64, carry: u64) -
 }
 
 // A register's load, by its bits of RST and CE.
+#[tactic(auto, unfolding(crate::specs::Slice::edge))]
 fn load(p: Ports, rst: u64, ce: u64, word: u64, input: u64) -> u64
     requires { (rst < 64) × (ce < 64) }
     ensures { result ≡ edge p rst ce word input }
@@ -109,6 +115,7 @@ fn load(p: Ports, rst: u64, ce: u64, word: u64, input: u64) -> u64
 }
 
 // Every register after the edge.
+#[tactic(auto, unfolding(crate::specs::Slice::next_of))]
 fn next(a: Attributes, r: Registers, p: Ports, s: Paths, t: Settled) -> Registers
     ensures { result ≡ next_of a r p s t }
 {
@@ -138,6 +145,7 @@ fn next(a: Attributes, r: Registers, p: Ports, s: Paths, t: Settled) -> Register
 }
 
 // The same where every enable is set and no reset is, as in most clocks.
+#[tactic(auto, unfolding(crate::specs::Slice::next_of, crate::specs::Slice::edge, unit::specs::Unit::load))]
 fn next_all(a: Attributes, r: Registers, p: Ports, s: Paths, t: Settled) -> Registers
     requires { (p.rst ≡ 0) × (p.ce ≡ 8191) }
     ensures { result ≡ next_of a r p s t }
@@ -183,6 +191,7 @@ fn put_next(words: &mut [u64], a: Attributes, r: Registers, p: Ports, s: Paths, 
 
 // One slice in one clock, on its own stretch of the column's registers: they become those after the edge. What it shows and hands up is of
 // the registers before it. Of the orders of work that were tried, this one makes the cheapest clock.
+#[tactic(auto, unfolding(crate::specs::Slice::step_of, crate::specs::Slice::slice_outputs, crate::specs::Slice::slice_cascade, crate::specs::Slice::slice_next, crate::specs::Slice::slice_settled, crate::specs::Slice::slice_operands))]
 pub fn stepped(a: Attributes, registers: &mut [u64], p: Ports, x: Cascade) -> Step
     ensures { Stepped a registers.old p x result registers.new }
 {

@@ -6,7 +6,7 @@ use crate::choice::mux;
 use records::{Attributes, Ports, Registers};
 
 // What a slice gets from the slice below: ACIN, BCIN, PCIN, and the carry.
-#[derive(Drop)]
+#[derive(Clone, Copy)]
 pub struct Cascade {
     pub a: u64,
     pub b: u64,
@@ -15,7 +15,7 @@ pub struct Cascade {
 }
 
 // The control words in effect.
-#[derive(Drop)]
+#[derive(Clone, Copy)]
 pub struct Controls {
     pub opmode: u64,
     pub alumode: u64,
@@ -24,7 +24,7 @@ pub struct Controls {
 }
 
 // The fields of OPMODE.
-#[derive(Drop)]
+#[derive(Clone, Copy)]
 pub struct Selects {
     pub w: u64,
     pub x: u64,
@@ -33,7 +33,7 @@ pub struct Selects {
 }
 
 // The inputs of A and B, and the paths.
-#[derive(Drop)]
+#[derive(Clone, Copy)]
 pub struct Paths {
     pub ain: u64,
     pub bin: u64,
@@ -45,6 +45,7 @@ pub struct Paths {
 }
 
 // The control words in effect: the register where its ..REG is 1, else the port.
+#[tactic(auto, unfolding(crate::specs::Slice::controls_of))]
 pub fn in_effect(a: Attributes, r: Registers, p: Ports) -> Controls
     ensures { result ≡ controls_of a r p }
 {
@@ -57,6 +58,7 @@ pub fn in_effect(a: Attributes, r: Registers, p: Ports) -> Controls
 }
 
 // The fields of OPMODE.
+#[tactic(auto, unfolding(crate::specs::Slice::selects_of))]
 pub fn selects_of(opmode: u64) -> Selects
     ensures { result ≡ selects_of opmode }
 {
@@ -68,6 +70,7 @@ pub fn selects_of(opmode: u64) -> Selects
     }
 }
 
+#[tactic(auto, unfolding(crate::specs::Slice::paths_of))]
 pub fn routed(a: Attributes, r: Registers, p: Ports, x: Cascade) -> Paths
     ensures { result ≡ paths_of a r p x }
 {

@@ -1,5 +1,7 @@
 // One slice in one clock: the control words in effect, what settles before an edge, what the slice shows and hands up, and the registers
 // after it, which are put in the slice's own words. Every function takes every number.
+#![tactic(auto)]
+
 mod choice;
 mod edge;
 mod inputs;

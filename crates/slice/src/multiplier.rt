@@ -7,13 +7,14 @@ use crate::choice::{bit, mux};
 use crate::inputs::{Controls, Paths};
 use records::{Attributes, Registers};
 
-#[derive(Drop)]
+#[derive(Clone, Copy)]
 pub struct Product {
     pub ad: u64,
     pub wrap: u64,
     pub m: u64,
 }
 
+#[tactic(auto, unfolding(crate::specs::Slice::a_side))]
 fn a_side(r: Registers, k: Controls, s: Paths) -> u64
     ensures { result ≡ a_side r k s }
 {
@@ -24,12 +25,14 @@ fn a_side(r: Registers, k: Controls, s: Paths) -> u64
     )
 }
 
+#[tactic(auto, unfolding(crate::specs::Slice::d_side))]
 fn d_side(k: Controls, s: Paths) -> u64
     ensures { result ≡ d_side k s }
 {
     mux(bit(k.inmode, 2), 0, s.d)
 }
 
+#[tactic(auto, unfolding(crate::specs::Slice::pre_added_of, crate::specs::Slice::left_of, crate::specs::Slice::right_of, crate::specs::Slice::product_of))]
 pub fn multiplied(a: Attributes, r: Registers, k: Controls, s: Paths) -> Product
     ensures { result ≡ product_of a r k s }
 {

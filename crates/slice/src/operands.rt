@@ -9,7 +9,7 @@ use crate::choice::bit;
 use crate::inputs::{Cascade, Controls, Paths, selects_of};
 use records::{Attributes, Registers};
 
-#[derive(Drop)]
+#[derive(Clone, Copy)]
 pub struct Operands {
     pub w: u64,
     pub x: u64,
@@ -84,6 +84,7 @@ fn carry_in(select: u64, carryin: u64, below: u64, carry: u64, own: u64) -> u64
 }
 
 // The operands, of the M path m.
+#[tactic(auto, unfolding(crate::specs::Slice::operands_of))]
 pub fn selected(a: Attributes, r: Registers, k: Controls, s: Paths, x: Cascade, m: u64) -> Operands
     ensures { result ≡ operands_of a r k s x m }
 {

@@ -1,4 +1,6 @@
 // Lines of numbers as bytes: read and printed. Every call takes whatever it is given.
+#![tactic(auto)]
+
 ghost use Rattle.std.specs.Prelude.{◌++◌};
 ghost use Rattle.text.specs.Printed.{line_within, Put};
 ghost use Rattle.text.specs.Calls.{Taken};

@@ -6,14 +6,14 @@ ghost use Rattle.text.specs.Within.{below64, digits_at, number_at};
 use crate::ascii::{DIGIT_0, TAB};
 
 // A field as a number.
-#[derive(Drop)]
+#[derive(Clone, Copy)]
 pub enum Parsed {
     Value(u64),
     Bad,
 }
 
 // A number and the place after it.
-#[derive(Drop)]
+#[derive(Clone, Copy)]
 pub enum Found {
     Number(u64, usize),
     Nothing,

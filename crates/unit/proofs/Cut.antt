@@ -1,6 +1,6 @@
 -- What the mark of a cut tells (02, Ask 9), once for every width: it is 0 exactly where the low bits read as the whole word does, and
 -- that is where the number fits them. Then the multiplier's product, which is exact. Assumes nothing.
-use Rattle.std.proofs.Common.{◌≡◌, ℕ, suc, ◌+◌, ◌*◌, ◌%◌, ◌^◌, ◌<◌, ◌≤◌, Bool, true, false, cond, ◌&&◌, leb, ℤ, pos, negsuc, ◌*ℤ◌, sym, refl, ap, ◌∙◌, subst, le_antisymm, arith, lit<, le-leb, leb-true}
+use Rattle.std.proofs.Common.{◌≡◌, ℕ, suc, ◌+◌, ◌%◌, ◌^◌, ◌<◌, Bool, true, false, cond, ◌&&◌, leb, ℤ, pos, negsuc, ◌*ℤ◌, sym, refl, ap, ◌∙◌, subst, le_antisymm, arith, lit<, le-leb, leb-true}
 use lib.Signed.{le_z, mag}
 use Rattle.word.specs.Word.{word, halved, signed}
 use Rattle.word.proofs.Laws.{both_true, signed_word, signed_range, word_signed, read_back, only_in_range, product_range}

@@ -2,58 +2,58 @@
 -- rattle reads it from the source) are equal. Assumes nothing.
 use Rattle.std.proofs.Common.{sym, ◌∙◌}
 use Rattle.word.proofs.Unique.{Once}
-use Rattle.unit.proofs.summed.Kinds as summed-kinds
-use Rattle.unit.proofs.summed.Reads as summed-reads
-use Rattle.unit.proofs.pre_adder.Kinds as pre-adder-kinds
-use Rattle.unit.proofs.pre_adder.Reads as pre-adder-reads
-use Rattle.unit.proofs.multiply.Kinds as multiply-kinds
-use Rattle.unit.proofs.multiply.Reads as multiply-reads
-use Rattle.unit.proofs.extend27.Kinds as extend27-kinds
-use Rattle.unit.proofs.extend27.Reads as extend27-reads
-use Rattle.unit.proofs.cut_mark.Kinds as cut-mark-kinds
-use Rattle.unit.proofs.cut_mark.Reads as cut-mark-reads
-use Rattle.unit.proofs.extend48.Kinds as extend48-kinds
-use Rattle.unit.proofs.extend48.Reads as extend48-reads
-use Rattle.unit.proofs.detect.Kinds as detect-kinds
-use Rattle.unit.proofs.detect.Reads as detect-reads
-use Rattle.unit.proofs.load.Kinds as load-kinds
-use Rattle.unit.proofs.load.Reads as load-reads
-use Rattle.unit.proofs.in_lanes.Kinds as in-lanes-kinds
-use Rattle.unit.proofs.in_lanes.Reads as in-lanes-reads
-use Rattle.unit.proofs.carry_out.Kinds as carry-out-kinds
-use Rattle.unit.proofs.carry_out.Reads as carry-out-reads
-use Rattle.unit.proofs.adder.Kinds as adder-kinds
-use Rattle.unit.proofs.adder.Reads as adder-reads
+use Rattle.unit.proofs.summed.Kinds as summed_kinds
+use Rattle.unit.proofs.summed.Reads as summed_reads
+use Rattle.unit.proofs.pre_adder.Kinds as pre_adder_kinds
+use Rattle.unit.proofs.pre_adder.Reads as pre_adder_reads
+use Rattle.unit.proofs.multiply.Kinds as multiply_kinds
+use Rattle.unit.proofs.multiply.Reads as multiply_reads
+use Rattle.unit.proofs.extend27.Kinds as extend27_kinds
+use Rattle.unit.proofs.extend27.Reads as extend27_reads
+use Rattle.unit.proofs.cut_mark.Kinds as cut_mark_kinds
+use Rattle.unit.proofs.cut_mark.Reads as cut_mark_reads
+use Rattle.unit.proofs.extend48.Kinds as extend48_kinds
+use Rattle.unit.proofs.extend48.Reads as extend48_reads
+use Rattle.unit.proofs.detect.Kinds as detect_kinds
+use Rattle.unit.proofs.detect.Reads as detect_reads
+use Rattle.unit.proofs.load.Kinds as load_kinds
+use Rattle.unit.proofs.load.Reads as load_reads
+use Rattle.unit.proofs.in_lanes.Kinds as in_lanes_kinds
+use Rattle.unit.proofs.in_lanes.Reads as in_lanes_reads
+use Rattle.unit.proofs.carry_out.Kinds as carry_out_kinds
+use Rattle.unit.proofs.carry_out.Reads as carry_out_reads
+use Rattle.unit.proofs.adder.Kinds as adder_kinds
+use Rattle.unit.proofs.adder.Reads as adder_reads
 
-pub summed_once : Once summed-kinds.ps summed-kinds.r summed-reads.Post
+pub summed_once : Once summed_kinds.ps summed_kinds.r summed_reads.Post
 summed_once _ _ _ _ _ _ a b = a ∙ sym b
 
-pub pre_adder_once : Once pre-adder-kinds.ps pre-adder-kinds.r pre-adder-reads.Post
+pub pre_adder_once : Once pre_adder_kinds.ps pre_adder_kinds.r pre_adder_reads.Post
 pre_adder_once _ _ _ _ _ _ a b = a ∙ sym b
 
-pub multiply_once : Once multiply-kinds.ps multiply-kinds.r multiply-reads.Post
+pub multiply_once : Once multiply_kinds.ps multiply_kinds.r multiply_reads.Post
 multiply_once _ _ _ _ _ _ a b = a ∙ sym b
 
-pub extend27_once : Once extend27-kinds.ps extend27-kinds.r extend27-reads.Post
+pub extend27_once : Once extend27_kinds.ps extend27_kinds.r extend27_reads.Post
 extend27_once _ _ _ _ _ _ a b = a ∙ sym b
 
-pub cut_mark_once : Once cut-mark-kinds.ps cut-mark-kinds.r cut-mark-reads.Post
+pub cut_mark_once : Once cut_mark_kinds.ps cut_mark_kinds.r cut_mark_reads.Post
 cut_mark_once _ _ _ _ _ _ a b = a ∙ sym b
 
-pub extend48_once : Once extend48-kinds.ps extend48-kinds.r extend48-reads.Post
+pub extend48_once : Once extend48_kinds.ps extend48_kinds.r extend48_reads.Post
 extend48_once _ _ _ _ _ _ a b = a ∙ sym b
 
-pub detect_once : Once detect-kinds.ps detect-kinds.r detect-reads.Post
+pub detect_once : Once detect_kinds.ps detect_kinds.r detect_reads.Post
 detect_once _ _ _ _ _ _ a b = a ∙ sym b
 
-pub load_once : Once load-kinds.ps load-kinds.r load-reads.Post
+pub load_once : Once load_kinds.ps load_kinds.r load_reads.Post
 load_once _ _ _ _ _ _ a b = a ∙ sym b
 
-pub in_lanes_once : Once in-lanes-kinds.ps in-lanes-kinds.r in-lanes-reads.Post
+pub in_lanes_once : Once in_lanes_kinds.ps in_lanes_kinds.r in_lanes_reads.Post
 in_lanes_once _ _ _ _ _ _ a b = a ∙ sym b
 
-pub carry_out_once : Once carry-out-kinds.ps carry-out-kinds.r carry-out-reads.Post
+pub carry_out_once : Once carry_out_kinds.ps carry_out_kinds.r carry_out_reads.Post
 carry_out_once _ _ _ _ _ _ a b = a ∙ sym b
 
-pub adder_once : Once adder-kinds.ps adder-kinds.r adder-reads.Post
+pub adder_once : Once adder_kinds.ps adder_kinds.r adder_reads.Post
 adder_once _ _ _ _ _ _ a b = a ∙ sym b

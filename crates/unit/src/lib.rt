@@ -1,5 +1,7 @@
 // The parts of a slice on plain numbers: adder and logic unit, pre-adder, multiplier and its extension, detector, the load
 // of a register; and the C bench's adder. Every function takes every number, and reads as many low bits as it is wide.
+#![tactic(auto)]
+
 ghost use Rattle.std.specs.Prelude.{◌≡◌, if◌then◌else◌};
 ghost use Rattle.word.specs.Word.{extend};
 ghost use Rattle.unit.specs.Unit.{lanes, lane_width, lane_count, unit_result, split_result, carry_out, summed_of, true_sum, pre_adder, cut_mark, product, load, within, forbidden, adder};
@@ -11,7 +13,7 @@ mod logic;
 const ONES: u64 = 0xffff_ffff_ffff;
 
 // What the detector shows: PD and PBD.
-#[derive(Drop)]
+#[derive(Clone, Copy)]
 pub struct Detected {
     pub pd: u64,
     pub pbd: u64,
@@ -53,7 +55,7 @@ pub fn carry_out(simd: u64, mode: u64, wsel: u64, ysel: u64, x: u64, z: u64, cin
 }
 
 // What the unit makes: its result, and the carry beside it.
-#[derive(Drop)]
+#[derive(Clone, Copy)]
 pub struct WithCarry {
     pub result: u64,
     pub carry: u64,
@@ -106,7 +108,7 @@ pub fn in_lanes(simd: u64, mode: u64, w: u64, x: u64, y: u64, z: u64, cin: u64) 
 }
 
 // What the pre-adder makes: the 27-bit result, and whether the true sum or difference left the range of 27 bits.
-#[derive(Drop)]
+#[derive(Clone, Copy)]
 pub struct PreAdded {
     pub ad: u64,
     pub wrap: u64,

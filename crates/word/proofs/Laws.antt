@@ -50,6 +50,7 @@ pub signed_small : (w n : ℕ) → mag (signed w n) * 2 < 2 ^ w
 signed_small w n = cases (λ z. mag z * 2 < 2 ^ w) (n % 2 ^ w * 2) (2 ^ w) (λ l. l) (λ l. omega (arith, mod-lt n (pow_pos w)))
 
 pub signed_range : (w n : ℕ) → 0 < w → suc (mag (signed w n)) * 2 ≤ 2 ^ w
+signed_range zero n h = elim h [ ]
 signed_range (suc w) n h = omega (arith, signed_small (suc w) n, pow-suc 2 w)
 
 -- what a word reads as leaves the word's own bits

@@ -1,6 +1,8 @@
 // Words of a given width: the pattern of an integer, the signed reading, the shift that keeps the sign, and the two
 // readings of a packed P. Every function takes every number: a width is read modulo 64, as the machine's shifts do,
 // and of a number the low bits alone are read.
+#![tactic(auto)]
+
 ghost use Rattle.std.specs.Prelude.{◌≡◌, ◌%◌, ◌^◌};
 ghost use Rattle.std.specs.Int.Signed.{shr_z};
 ghost use Rattle.word.specs.Word.{word, signed, shifted, low_sum, high_sum};

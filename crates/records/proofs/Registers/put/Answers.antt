@@ -1,0 +1,12 @@
+-- Where there is room for each word and no more, the words put one after the other are the stretch. Assumes nothing.
+use Rattle.std.proofs.Common.{sym, ◌∙◌}
+use Rattle.lent.proofs.Laws.{stored_all}
+use Rattle.records.specs.Records.{registers_words}
+use Rattle.records.proofs.Putting.{forward_all}
+use Rattle.records.proofs.Registers.put.Goals as goal
+
+pub returns : goal.returns
+returns c =
+    let words = c.args.words.now in
+    forward_all words c.args.self c.if-words-ne-WORDS.false
+    ∙ sym (stored_all words (registers_words c.args.self) c.if-words-ne-WORDS.false)

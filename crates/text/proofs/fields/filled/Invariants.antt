@@ -1,0 +1,7 @@
+-- The line is the numbers so far, and then the fields that are due. Assumes nothing.
+use Rattle.std.proofs.Common.{length}
+use Rattle.text.proofs.Lines.{Reading}
+use Rattle.text.proofs.fields.filled.Given as goal
+
+abbrev pub invariant-loop-j : goal.invariant-loop-j
+invariant-loop-j l = Reading l.letter l.s (length l.fn.into) l.into l.at l.j

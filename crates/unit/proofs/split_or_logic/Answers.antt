@@ -1,0 +1,12 @@
+-- `unit::split_or_logic` meets its contract: the definition's two cases are the code's. Assumes nothing.
+use Rattle.std.proofs.Common.{arith, le-ltb, lt-ltb}
+use Rattle.unit.specs.Unit.{split_result}
+use Rattle.unit.proofs.split_or_logic.Goals as goal
+
+pub returns-then-mode-lt4 : goal.returns-then-mode-lt4
+unfolding split_result
+returns-then-mode-lt4 c = rw (lt-ltb c.args.mode 4 (omega arith)) c.by_simd.ensures
+
+pub returns-else-mode-lt4 : goal.returns-else-mode-lt4
+unfolding split_result
+returns-else-mode-lt4 c = rw (le-ltb c.args.mode 4 (omega arith)) c.result.ensures
