@@ -18,7 +18,7 @@ all: archive
 archive: build/libdsp48e2.a build/dsp48e2.h
 
 build/libdsp48e2.a: crates.txt $(wildcard crates/*/src/*.rt)
-	rt lib dsp48e2
+	cd crates/dsp48e2 && rt lib
 	mkdir -p build
 	cp crates/dsp48e2/out/libdsp48e2.a $@
 
@@ -98,7 +98,7 @@ build/interactive build/first-match build/cuts: build/%: bench/%.c bench/piped.c
 
 # dspcol proved and built, where its crate is and it is not.
 dspcol-built:
-	[ -x '$(DSPCOL)' ] || [ ! -d crates/dspcol ] || rt run dspcol </dev/null >/dev/null
+	[ -x '$(DSPCOL)' ] || [ ! -d crates/dspcol ] || { cd crates/dspcol && rt run </dev/null >/dev/null; }
 
 # The plain C sides of the benchmark, compiled alike.
 build/listing: model/listing.c model/column.c model/column.h

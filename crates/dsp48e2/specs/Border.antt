@@ -13,7 +13,7 @@ use Rattle.column.specs.Refusals.{number_of, place_of, clock_answer, clear_answe
 use Rattle.column.specs.Calls.{why_of}
 use Rattle.packed.specs.declared.Run.{Run}
 use Rattle.packed.specs.Packed.{Batch, run_list, read_answers, plain_answers}
-use Rattle.packed.specs.Calls.{number_of as runNumber, place_of as runPlace, clocks_of, clocked_run, plain_run}
+use Rattle.packed.specs.Calls.{number_of as run_number, place_of as run_place, clocks_of, clocked_run, plain_run}
 
 -- a refusal: 2^48, 256 for each slice (of a packed run each row) below the one reported, and the number
 abbrev pub refusal : (place number : ℕ) → ℕ
@@ -45,19 +45,19 @@ pub record WhyC (count : ℕ) (at rs ps : List ℕ) (k : ℕ) (ws : List ℕ) (r
 
 -- the returned word of a packed run: the clocks it stepped, which are 0 for the plain run
 unfoldable pub run_word : Run → ℕ
-run_word run = cond (eqb (runNumber run) 0) (clocks_of run) (refusal (runPlace run) (runNumber run))
+run_word run = cond (eqb (run_number run) 0) (clocks_of run) (refusal (run_place run) (run_number run))
 
 -- `dsp_packed_clocked`, of the lent answers os and the lent list ws
 pub record ClockedRunC (g : Batch) (os : List ℤ) (ws : List ℕ) (r : ℕ) (os' : List ℤ) (ws' : List ℕ) : Type 0 where
   pub word : r ≡ run_word (clocked_run g os ws)
-  pub list : ws' ≡ leaves (runNumber (clocked_run g os ws)) (run_list g) ws
-  pub answers : os' ≡ leaves (runNumber (clocked_run g os ws)) (read_answers g.terms g.rows (run_list g)) os
-  pub exact : os' ≡ leaves (runNumber (clocked_run g os ws)) (plain_answers g) os
+  pub list : ws' ≡ leaves (run_number (clocked_run g os ws)) (run_list g) ws
+  pub answers : os' ≡ leaves (run_number (clocked_run g os ws)) (read_answers g.terms g.rows (run_list g)) os
+  pub exact : os' ≡ leaves (run_number (clocked_run g os ws)) (plain_answers g) os
 
 -- `dsp_packed_plain`
 pub record PlainRunC (g : Batch) (os : List ℤ) (r : ℕ) (os' : List ℤ) : Type 0 where
   pub word : r ≡ run_word (plain_run g os)
-  pub answers : os' ≡ leaves (runNumber (plain_run g os)) (plain_answers g) os
+  pub answers : os' ≡ leaves (run_number (plain_run g os)) (plain_answers g) os
 
 -- no second outcome fits
 pub one_clock : {count : ℕ} {at rs ps os : List ℕ} {r₁ r₂ : ℕ} {rs₁ rs₂ os₁ os₂ : List ℕ}

@@ -6,7 +6,7 @@ ghost use Rattle.unit.specs.Unit.{adder};
 ghost use Rattle.column.specs.Refusals.{place_of};
 ghost use Rattle.dsp48e2.specs.Border.{refusal, word_of, ClockedC, ClearedC, why_lent, WhyC, run_word, ClockedRunC, PlainRunC};
 ghost use Rattle.packed.specs.Packed.{most_rows, batch};
-ghost use Rattle.packed.specs.Calls.{place_of as runPlace};
+ghost use Rattle.packed.specs.Calls.{place_of as run_place};
 
 use column::{Answer, Reason};
 use packed::Run;
@@ -97,7 +97,7 @@ pub extern "C" fn dsp_why(
 // The returned word of a packed run.
 #[tactic(auto, unfolding(crate::specs::Border::run_word))]
 fn run_word(run: Run) -> u64
-    requires { runPlace run < most_rows }
+    requires { run_place run < most_rows }
     ensures { result ≡ run_word run }
 {
     let number = packed::number(run);

@@ -5,7 +5,7 @@ use Prim.Native.Nat.{ℕ}
 use lib.ListN.{replicate}
 use Rattle.records.specs.Records.{exceeds}
 use Rattle.column.specs.Column.{column_next, column_shown, shown_at, next_at, cascade_into}
-use Rattle.column.specs.Refusals.{attributes_answer, clock_answer, rules, settings, lengths_fit as lengthsOfClock, fails, broken}
+use Rattle.column.specs.Refusals.{attributes_answer, clock_answer, rules, settings, lengths_fit as lengths_of_clock, fails, broken}
 use Rattle.legal.specs.Legal.{off_list, bad_inmode, bad_opmode, bad_alumode, bad_carryinsel, breaks}
 use Rattle.slice.specs.Slice.{controls_of, selects_of, slice_next, next_of, edge, slice_outputs, slice_cascade, outputs_of_settled, cascade_of, slice_settled, settled_of, settled_carry, result_of, slice_operands, operands_of, product_of, left_of, right_of, pre_added_of, a_side, d_side, paths_of}
 use Rattle.unit.specs.Unit.{unit_result, split_result, carry_out, arithmetic, lanes, logic_rows, wrapped_sum, pre_adder, product, load}
@@ -82,7 +82,7 @@ pub record OneSlice : Type 0 where
   pub refused_after : listing (m_line 1 0 ++ (a_line 0 ++ (hit ++ forbidden))) ≡ match 0
 
 pub one_slice : OneSlice
-unfolding listing byte_turn head_step begin_step group_step answered shown_step shown detects settings_line line_of end_says end_of printed decimal_of clocked_registers clocked_outputs attributes_answer clock_answer rules settings lengthsOfClock fails broken breaks exceeds column_next column_shown shown_at next_at cascade_into off_list bad_inmode bad_opmode bad_alumode bad_carryinsel controls_of selects_of slice_next next_of edge load slice_outputs slice_cascade outputs_of_settled cascade_of slice_settled settled_of settled_carry carry_out result_of slice_operands operands_of product_of left_of right_of pre_added_of a_side d_side paths_of split_result unit_result lanes arithmetic logic_rows wrapped_sum pre_adder product detected unmasked
+unfolding listing byte_turn head_step begin_step group_step answered shown_step shown detects settings_line line_of end_says end_of printed decimal_of clocked_registers clocked_outputs attributes_answer clock_answer rules settings lengths_of_clock fails broken breaks exceeds column_next column_shown shown_at next_at cascade_into off_list bad_inmode bad_opmode bad_alumode bad_carryinsel controls_of selects_of slice_next next_of edge load slice_outputs slice_cascade outputs_of_settled cascade_of slice_settled settled_of settled_carry carry_out result_of slice_operands operands_of product_of left_of right_of pre_added_of a_side d_side paths_of split_result unit_result lanes arithmetic logic_rows wrapped_sum pre_adder product detected unmasked
 one_slice =
     record {
       in_clock_0 = refl;
@@ -102,7 +102,7 @@ pub record TwoSlices : Type 0 where
   pub refused_clock : listing (m_line 2 0 ++ (a_line 0 ++ (a_line 0 ++ (hit ++ forbidden)))) ≡ refused 7 0 1
 
 pub two_slices : TwoSlices
-unfolding listing byte_turn head_step begin_step group_step answered shown_step shown detects settings_line line_of end_says end_of printed decimal_of clocked_registers clocked_outputs attributes_answer clock_answer rules settings lengthsOfClock fails broken breaks exceeds column_next column_shown shown_at next_at cascade_into off_list bad_inmode bad_opmode bad_alumode bad_carryinsel controls_of selects_of slice_next next_of edge load slice_outputs slice_cascade outputs_of_settled cascade_of slice_settled settled_of settled_carry carry_out result_of slice_operands operands_of product_of left_of right_of pre_added_of a_side d_side paths_of split_result unit_result lanes arithmetic logic_rows wrapped_sum pre_adder product detected unmasked
+unfolding listing byte_turn head_step begin_step group_step answered shown_step shown detects settings_line line_of end_says end_of printed decimal_of clocked_registers clocked_outputs attributes_answer clock_answer rules settings lengths_of_clock fails broken breaks exceeds column_next column_shown shown_at next_at cascade_into off_list bad_inmode bad_opmode bad_alumode bad_carryinsel controls_of selects_of slice_next next_of edge load slice_outputs slice_cascade outputs_of_settled cascade_of slice_settled settled_of settled_carry carry_out result_of slice_operands operands_of product_of left_of right_of pre_added_of a_side d_side paths_of split_result unit_result lanes arithmetic logic_rows wrapped_sum pre_adder product detected unmasked
 two_slices = record { lower = refl; another = refl; upper = refl; refused_clock = refl }
 
 -- PREG 1, and CE P: the cleared registers show none, and what clock 0 loads shows in clock 1
@@ -117,5 +117,5 @@ pub record Registered : Type 0 where
   pub not_yet : listing (m_line 1 0 ++ (preg_line ++ loading)) ≡ end 1
 
 pub registered : Registered
-unfolding listing byte_turn head_step begin_step group_step answered shown_step shown detects settings_line line_of end_says end_of printed decimal_of clocked_registers clocked_outputs attributes_answer clock_answer rules settings lengthsOfClock fails broken breaks exceeds column_next column_shown shown_at next_at cascade_into off_list bad_inmode bad_opmode bad_alumode bad_carryinsel controls_of selects_of slice_next next_of edge load slice_outputs slice_cascade outputs_of_settled cascade_of slice_settled settled_of settled_carry carry_out result_of slice_operands operands_of product_of left_of right_of pre_added_of a_side d_side paths_of split_result unit_result lanes arithmetic logic_rows wrapped_sum pre_adder product detected unmasked
+unfolding listing byte_turn head_step begin_step group_step answered shown_step shown detects settings_line line_of end_says end_of printed decimal_of clocked_registers clocked_outputs attributes_answer clock_answer rules settings lengths_of_clock fails broken breaks exceeds column_next column_shown shown_at next_at cascade_into off_list bad_inmode bad_opmode bad_alumode bad_carryinsel controls_of selects_of slice_next next_of edge load slice_outputs slice_cascade outputs_of_settled cascade_of slice_settled settled_of settled_carry carry_out result_of slice_operands operands_of product_of left_of right_of pre_added_of a_side d_side paths_of split_result unit_result lanes arithmetic logic_rows wrapped_sum pre_adder product detected unmasked
 registered = record { shows_later = refl; not_yet = refl }

@@ -13,7 +13,7 @@ use Rattle.event.specs.Events.{bytes_within}
 use Rattle.event.specs.Showing.{detects, shown}
 use Rattle.column.specs.declared.Answer.TheVariants.{Accepted}
 use Rattle.column.specs.Column.{column_next, column_shown, shown_at, next_at, cascade_into}
-use Rattle.column.specs.Refusals.{attributes_answer, clock_answer, rules, settings, lengths_fit as lengthsOfClock, fails, broken}
+use Rattle.column.specs.Refusals.{attributes_answer, clock_answer, rules, settings, lengths_fit as lengths_of_clock, fails, broken}
 use Rattle.legal.specs.Legal.{off_list, bad_inmode, bad_opmode, bad_alumode, bad_carryinsel, breaks}
 use Rattle.slice.specs.Slice.{controls_of, selects_of, slice_next, next_of, edge, slice_outputs, slice_cascade, outputs_of_settled, cascade_of, slice_settled, settled_of, settled_carry, result_of, slice_operands, operands_of, product_of, left_of, right_of, pre_added_of, a_side, d_side, paths_of}
 use Rattle.unit.specs.Unit.{unit_result, split_result, carry_out, arithmetic, lanes, logic_rows, wrapped_sum, pre_adder, product, load}
@@ -125,7 +125,7 @@ pub record OneClock : Type 0 where
   pub port_over : listing (n_line 2 ++ (a_line 0 ++ (a_line 0 ++ (p_line 0 0 0 ++ p_line 262144 0 0)))) ≡ refused 5 0 1
 
 pub one_clock : OneClock
-unfolding listing byte_turn head_step begin_step group_step answered shown_step shown detects settings_line line_of end_says end_of printed decimal_of clocked_registers clocked_outputs attributes_answer clock_answer rules settings lengthsOfClock fails broken breaks exceeds column_next column_shown shown_at next_at cascade_into off_list bad_inmode bad_opmode bad_alumode bad_carryinsel controls_of selects_of slice_next next_of edge load slice_outputs slice_cascade outputs_of_settled cascade_of slice_settled settled_of settled_carry carry_out result_of slice_operands operands_of product_of left_of right_of pre_added_of a_side d_side paths_of split_result unit_result lanes arithmetic logic_rows wrapped_sum pre_adder product detected unmasked
+unfolding listing byte_turn head_step begin_step group_step answered shown_step shown detects settings_line line_of end_says end_of printed decimal_of clocked_registers clocked_outputs attributes_answer clock_answer rules settings lengths_of_clock fails broken breaks exceeds column_next column_shown shown_at next_at cascade_into off_list bad_inmode bad_opmode bad_alumode bad_carryinsel controls_of selects_of slice_next next_of edge load slice_outputs slice_cascade outputs_of_settled cascade_of slice_settled settled_of settled_carry carry_out result_of slice_operands operands_of product_of left_of right_of pre_added_of a_side d_side paths_of split_result unit_result lanes arithmetic logic_rows wrapped_sum pre_adder product detected unmasked
 one_clock = record { worked = refl; split = refl; refused_later = refl; port_over = refl }
 
 -- a player whose `P` lines are due
