@@ -35,6 +35,7 @@ pub fn off_list(a: Attributes) -> bool
 }
 
 // Number 6.
+#[tactic(auto, unfolding(crate::specs::Legal::bad_inmode))]
 fn bad_inmode(a: Attributes, k: Controls) -> bool
     ensures { result ≡ bad_inmode a k }
 {
@@ -44,6 +45,7 @@ fn bad_inmode(a: Attributes, k: Controls) -> bool
 }
 
 // Number 7.
+#[tactic(auto, unfolding(crate::specs::Legal::bad_opmode))]
 fn bad_opmode(a: Attributes, s: Selects) -> bool
     ensures { result ≡ bad_opmode a s }
 {
@@ -56,6 +58,7 @@ fn bad_opmode(a: Attributes, s: Selects) -> bool
 }
 
 // Number 8.
+#[tactic(auto, unfolding(crate::specs::Legal::bad_alumode))]
 fn bad_alumode(alumode: u64, s: Selects) -> bool
     ensures { result ≡ bad_alumode alumode s }
 {
@@ -64,6 +67,7 @@ fn bad_alumode(alumode: u64, s: Selects) -> bool
 }
 
 // Number 9.
+#[tactic(auto, unfolding(crate::specs::Legal::bad_carryinsel))]
 fn bad_carryinsel(a: Attributes, k: Controls) -> bool
     ensures { result ≡ bad_carryinsel a k }
 {

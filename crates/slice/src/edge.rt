@@ -115,7 +115,6 @@ fn load(p: Ports, rst: u64, ce: u64, word: u64, input: u64) -> u64
 }
 
 // Every register after the edge.
-#[tactic(auto, unfolding(crate::specs::Slice::next_of))]
 fn next(a: Attributes, r: Registers, p: Ports, s: Paths, t: Settled) -> Registers
     ensures { result ≡ next_of a r p s t }
 {
@@ -191,7 +190,6 @@ fn put_next(words: &mut [u64], a: Attributes, r: Registers, p: Ports, s: Paths, 
 
 // One slice in one clock, on its own stretch of the column's registers: they become those after the edge. What it shows and hands up is of
 // the registers before it. Of the orders of work that were tried, this one makes the cheapest clock.
-#[tactic(auto, unfolding(crate::specs::Slice::step_of, crate::specs::Slice::slice_outputs, crate::specs::Slice::slice_cascade, crate::specs::Slice::slice_next, crate::specs::Slice::slice_settled, crate::specs::Slice::slice_operands))]
 pub fn stepped(a: Attributes, registers: &mut [u64], p: Ports, x: Cascade) -> Step
     ensures { Stepped a registers.old p x result registers.new }
 {

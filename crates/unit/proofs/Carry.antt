@@ -39,7 +39,7 @@ carry_exact x z cin hx hz hc =
     ap (λ (n : ℕ). cond (leb (2 ^ 48) (x + z + cin)) 1 0 * 2 ^ 48 + n) (sum_result x z cin)
     ∙ carry_parts 48 (x + z + cin) (sum_lt 48 x z cin hx hz hc)
 
-pub carry_lt : (simd mode wSelect ySelect x z cin : ℕ) → carry_out simd mode wSelect ySelect x z cin < 2
+pub carry_lt : (simd mode w_select y_select x z cin : ℕ) → carry_out simd mode w_select y_select x z cin < 2
 unfolding carry_out
-carry_lt simd mode wSelect ySelect x z cin =
-    cond_lt (eqb simd 0 && eqb mode 0 && eqb wSelect 0 && eqb ySelect 0) (cond_lt (leb (2 ^ 48) (x + z + cin)) (lit< tt) (lit< tt)) (lit< tt)
+carry_lt simd mode w_select y_select x z cin =
+    cond_lt (eqb simd 0 && eqb mode 0 && eqb w_select 0 && eqb y_select 0) (cond_lt (leb (2 ^ 48) (x + z + cin)) (lit< tt) (lit< tt)) (lit< tt)

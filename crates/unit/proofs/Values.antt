@@ -3,7 +3,7 @@
 use Rattle.std.proofs.Common.{◌≡◌, ℕ, ◌+◌, ◌-◌, ◌*◌, ◌^◌, refl}
 use Rattle.word.specs.Word.{extend}
 use Rattle.unit.specs.declared.PreAdded.{PreAdded}
-use Rattle.unit.specs.Unit.{ones, arithmetic, lanes, logic_rows, unit_result, split_result, carry_out, wrapped_sum, pre_adder, product, load, adder}
+use Rattle.unit.specs.Unit.{ones, arithmetic, lanes, logic_rows, unit_result, split_result, carry_out, wrapped_sum, pre_adder, cut_mark, product, load, adder}
 use Rattle.unit.specs.Detector.{unmasked, detected}
 
 -- a logic mode's result at X 12 and Z 10, with a CIN that is ignored
@@ -69,6 +69,11 @@ pub record Values : Type 0 where
   -- a product with either side below 0, and its extension
   pub below_0 : (product 134217727 1 ≡ 35184372088831) × (product 1 262143 ≡ 35184372088831)
   pub extends : extend 45 48 35184372088831 ≡ 281474976710655
+  -- 18 bits extended to 27: the highest number, the lowest, and a pattern whose higher bits are not read
+  pub extends_18 : (extend 18 27 131071 ≡ 131071) × (extend 18 27 131072 ≡ minus 131072) × (extend 18 27 (2 ^ 18 + 1) ≡ 1)
+  -- the mark of a cut (02, Ask 9): 0 at the ends of 18 bits, 1 one beyond either, and for a number of which the cut leaves 0
+  pub cuts : (cut_mark 18 27 131071 ≡ 0) × (cut_mark 18 27 131072 ≡ 1) × (cut_mark 18 27 (minus 131072) ≡ 0)
+      × (cut_mark 18 27 (minus 131073) ≡ 1) × (cut_mark 18 27 (2 ^ 18) ≡ 1)
   -- with no mask a word is the pattern, its complement, or neither
   pub detects : ((detected 5 5 0).pd ≡ 1) × ((detected 5 5 0).pbd ≡ 0) × ((detected (ones 48 - 5) 5 0).pd ≡ 0) × ((detected (ones 48 - 5) 5 0).pbd ≡ 1)
       × ((detected 4 5 0).pd ≡ 0) × ((detected 4 5 1).pd ≡ 1)
@@ -82,7 +87,7 @@ pub record Values : Type 0 where
   pub accepts : (adder 0 5 7 0 0 0 ≡ 12) × (adder 0 12 (ones 48) 10 1 12 ≡ 14)
 
 pub values : Values
-unfolding arithmetic lanes logic_rows unit_result split_result carry_out wrapped_sum pre_adder product load adder unmasked detected
+unfolding arithmetic lanes logic_rows unit_result split_result carry_out wrapped_sum pre_adder cut_mark product load adder unmasked detected
 values =
     record {
       mode2 = refl;
@@ -117,6 +122,8 @@ values =
       low_27 = refl;
       below_0 = (refl, refl);
       extends = refl;
+      extends_18 = (refl, refl, refl);
+      cuts = (refl, refl, refl, refl, refl);
       detects = (refl, refl, refl, refl, refl, refl);
       resets = (refl, refl);
       loads = refl;

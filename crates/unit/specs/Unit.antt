@@ -73,14 +73,14 @@ split_result simd mode w x y z cin =
 
 -- Carry cascade (02, Ask 7): "when ONE48, ALUMODE 0, W select 0 and Y select 0 are in effect, the carry is 1 exactly if X + Z + CIN is at
 -- least 2^48; in every other setting it is 0 here"
-unfoldable pub carry_out : (simd mode wSelect ySelect x z cin : ℕ) → ℕ
-carry_out simd mode wSelect ySelect x z cin =
-    cond (simd == 0 && mode == 0 && wSelect == 0 && ySelect == 0) (cond (nat_le (2 ^ 48) (x + z + cin)) 1 0) 0
+unfoldable pub carry_out : (simd mode w_select y_select x z cin : ℕ) → ℕ
+carry_out simd mode w_select y_select x z cin =
+    cond (simd == 0 && mode == 0 && w_select == 0 && y_select == 0) (cond (nat_le (2 ^ 48) (x + z + cin)) 1 0) 0
 
 -- the unit's result, and the carry beside it
-unfoldable pub summed_of : (simd mode wSelect ySelect w x y z cin : ℕ) → WithCarry
-summed_of simd mode wSelect ySelect w x y z cin =
-    record { result = split_result simd mode w x y z cin; carry = carry_out simd mode wSelect ySelect x z cin }
+unfoldable pub summed_of : (simd mode w_select y_select w x y z cin : ℕ) → WithCarry
+summed_of simd mode w_select y_select w x y z cin =
+    record { result = split_result simd mode w x y z cin; carry = carry_out simd mode w_select y_select x z cin }
 
 -- Pre-adder: d + a, or d − a where subtract is not 0, modulo 2 ^ w
 unfoldable pub wrapped_sum : (w subtract d a : ℕ) → ℕ
