@@ -11,9 +11,8 @@ use Rattle.records.specs.Records.{register_words, port_words, register_widths, p
 use Rattle.records.proofs.Fits.{Fit, none, more, fit_within, zeros_fit, registers_fit, ports_fit}
 use Rattle.slice.proofs.Widths.{CascadeFit, cascade_fit, next_fit}
 use Rattle.column.specs.declared.Check.TheVariants.{Register, Port}
-use Rattle.column.specs.declared.Answer.TheVariants.{Accepted}
 use Rattle.column.specs.Column.{stretch, registers_at, ports_at, cascade_into, next_at, column_next}
-use Rattle.column.specs.Refusals.{broken, fails, settings, clock_answer}
+use Rattle.column.specs.Refusals.{accepted, broken, fails, settings, clock_answer}
 use Rattle.column.specs.Calls.{Clocked}
 use Rattle.column.proofs.Search.{lowest_none}
 use Rattle.column.proofs.Stacks.{stretch_stacked, stacked_zeros}
@@ -22,17 +21,17 @@ use Rattle.column.proofs.Answers.{accepted_none, accepted_settings, accepted_lea
 
 -- ---- an accepted clock
 
-module _ (count : ℕ) (at rs ps : List ℕ) (accepted : settings count at rs ps ≡ Accepted) where
+module _ (count : ℕ) (at rs ps : List ℕ) (passed : settings count at rs ps ≡ accepted) where
   -- slice k's registers and ports are within their widths
   registers_within : (k : ℕ) → k < count → Fit register_widths (registers_words (registers_at rs k))
   unfolding fails broken
   registers_within k h =
-      registers_fit (stretch register_words k rs) (lowest_none (fails Register at rs ps) count k (accepted_none count at rs ps accepted Register) h)
+      registers_fit (stretch register_words k rs) (lowest_none (fails Register at rs ps) count k (accepted_none count at rs ps passed Register) h)
 
   ports_within : (k : ℕ) → k < count → Fit port_widths (ports_words (ports_at ps k))
   unfolding fails broken
   ports_within k h =
-      ports_fit (stretch port_words k ps) (lowest_none (fails Port at rs ps) count k (accepted_none count at rs ps accepted Port) h)
+      ports_fit (stretch port_words k ps) (lowest_none (fails Port at rs ps) count k (accepted_none count at rs ps passed Port) h)
 
   -- so is the cascade into it
   pub into_within : (k : ℕ) → k < count → CascadeFit (cascade_into at rs ps k)
@@ -51,13 +50,13 @@ module _ (count : ℕ) (at rs ps : List ℕ) (accepted : settings count at rs ps
   column_within k h =
       rw (stretch_stacked (next_at at rs ps) register_words (next_length at rs ps) k count h) (fit_within (next_within k h))
 
--- so they are after every clock whose answer is `Accepted`
-pub clock_within : (count : ℕ) (at rs ps os : List ℕ) → clock_answer count at rs ps os ≡ Accepted
+-- so they are after every clock that is accepted
+pub clock_within : (count : ℕ) (at rs ps os : List ℕ) → clock_answer count at rs ps os ≡ accepted
     → (k : ℕ) → k < count → exceeds register_widths (stretch register_words k (column_next count at rs ps)) ≡ false
 clock_within count at rs ps os p = column_within count at rs ps (accepted_settings count at rs ps os p)
 
 -- and so are the registers that such a call of `clock` leaves: after every accepted clock every register is within its width
-pub accepted_within : {count : ℕ} {at rs ps os rs' os' : List ℕ} → Clocked count at rs ps os Accepted rs' os'
+pub accepted_within : {count : ℕ} {at rs ps os rs' os' : List ℕ} → Clocked count at rs ps os accepted rs' os'
     → (k : ℕ) → k < count → exceeds register_widths (stretch register_words k rs') ≡ false
 accepted_within {count} {at} {rs} {ps} {os} c k h =
     rw (accepted_leaves c).0 (clock_within count at rs ps os (sym c.answer) k h)

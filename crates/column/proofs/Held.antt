@@ -22,10 +22,8 @@ use Rattle.legal.specs.declared.rules.Rule.TheVariants.{Inmode, Opmode, Alumode,
 use Rattle.legal.specs.Legal.{bad_inmode, bad_opmode, bad_alumode, bad_carryinsel, breaks}
 use Rattle.column.specs.declared.Check.{Check}
 use Rattle.column.specs.declared.Check.TheVariants as check
-use Rattle.column.specs.declared.Answer.{Answer}
-use Rattle.column.specs.declared.Answer.TheVariants.{Accepted}
 use Rattle.column.specs.Column.{attributes_at, registers_at, ports_at}
-use Rattle.column.specs.Refusals.{number_of, broken, fails, clock_answer}
+use Rattle.column.specs.Refusals.{Answer, accepted, number_of, broken, fails, clock_answer}
 use Rattle.column.specs.Calls.{Clocked, Cleared}
 use Rattle.column.proofs.Search.{lowest_none}
 use Rattle.column.proofs.Answers.{accepted_none, accepted_settings, not_accepted, refused_keeps}
@@ -70,7 +68,7 @@ AllRefused (r ∷ answers) = (0 < number_of r) × AllRefused answers
 pub holder_refuses : {count : ℕ} {at rs : List ℕ} → HoldsForbidden count at rs → (ps os : List ℕ) → 0 < number_of (clock_answer count at rs ps os)
 holder_refuses {count} {at} {rs} held ps os = not_accepted (clock_answer count at rs ps os) never
   where
-    never : clock_answer count at rs ps os ≡ Accepted → ⊥
+    never : clock_answer count at rs ps os ≡ accepted → ⊥
     never p =
         let none = accepted_none count at rs ps (accepted_settings count at rs ps os p) (check_of held.rule) in
         let passes = lowest_none (fails (check_of held.rule) at rs ps) count held.slice none held.below in
@@ -197,7 +195,7 @@ cleared_breaks_nothing rule count at ps k h reg =
     (zero_allowed rule (attributes_at at k) _ (ports_at ps k) (by_register rule (attributes_at at k) (ports_at ps k) reg))
 
 -- so a column that `clear` has cleared holds no forbidden setting by itself, whatever the attributes are
-pub cleared_holds_nothing : {count : ℕ} {at rs rs' : List ℕ} → Cleared count rs Accepted rs' → HoldsForbidden count at rs' → ⊥
+pub cleared_holds_nothing : {count : ℕ} {at rs rs' : List ℕ} → Cleared count rs accepted rs' → HoldsForbidden count at rs' → ⊥
 cleared_holds_nothing {count} {at} {rs} c held =
     let zeros = c.registers ∙ ap (λ (a : Answer). leaves (number_of a) (replicate (register_words * count) 0) rs) (sym c.answer) in
     let free : HoldsForbidden count at (replicate (register_words * count) 0) = subst (HoldsForbidden count at) zeros held in

@@ -1,25 +1,25 @@
 -- What `why` tells is true (02, Ask 3), for every column that a clock accepts and every slice of it. Assumes nothing.
 use Prim.Native.Nat.{ℕ, ◌*◌, ◌<◌}
-use mathlib.Core.Path.{◌≡◌, refl, ap, subst⁻¹, ◌∙◌}
+use mathlib.Core.Path.{◌≡◌, refl, ◌∙◌}
 use mathlib.Core.Bool.{Bool, true, false, ◌&&◌}
 use mathlib.Core.List.{List}
 use lib.ListN.{length, get_or}
 use borrow.Author.Tests.{eq-eqb, lt-ltb}
-use Rattle.lent.specs.Refusing.{unless, leaves}
+use Rattle.std.specs.Prelude.{Ok, Err}
+use Rattle.lent.specs.Refusing.{unless}
 use Rattle.unit.specs.Choice.{bit}
 use Rattle.records.specs.Records.{register_words, output_words}
 use Rattle.slice.specs.Slice.{slice_settled}
 use Rattle.reason.specs.declared.Reason.{Reason}
-use Rattle.reason.specs.Reason.{applied, no_reason}
+use Rattle.reason.specs.Reason.{applied}
 use Rattle.reason.proofs.Truth.{Placed, places_true, result_settles, result_by_rule, result_shows, result_loads}
-use Rattle.column.specs.declared.Answer.{Answer}
-use Rattle.column.specs.declared.Answer.TheVariants.{Accepted, BadCount, BadLength}
+use Rattle.column.specs.declared.Refusal.TheVariants.{BadCount, BadLength}
 use Rattle.column.specs.Column.{stretch, attributes_at, registers_at, ports_at, cascade_into, shown_at, next_at, column_shown, column_next}
-use Rattle.column.specs.Refusals.{number_of, settings, count_fits, inputs_fit, clock_answer, why_answer}
+use Rattle.column.specs.Refusals.{accepted, settings, count_fits, inputs_fit, clock_answer, why_answer}
 use Rattle.column.specs.Calls.{reason_at, why_of}
 use Rattle.column.proofs.Stacks.{stretch_stacked}
 use Rattle.column.proofs.Edges.{next_length, shown_length}
-use Rattle.column.proofs.Answers.{lengths_parts, accepted_ready}
+use Rattle.column.proofs.Answers.{lengths_parts, accepted_ready, why_tells}
 
 -- of a slice of the column `why` answers as a clock does, by number and place, where the clock's outputs have their length
 pub why_as_clock : (count : ℕ) (at rs ps os : List ℕ) (k : ℕ) → length os ≡ output_words * count → k < count
@@ -28,8 +28,8 @@ unfolding why_answer clock_answer
 why_as_clock count at rs ps os k e h =
     rw (lengths_parts count at rs ps os, eq-eqb (length os) (output_words * count) e, lt-ltb k count h) (by (inputs_fit count at rs ps))
   where
-    by : (b : Bool) → unless (count_fits count) BadCount (unless b BadLength (settings count at rs ps))
-        ≡ unless (count_fits count) BadCount (unless (b && true) BadLength (settings count at rs ps))
+    by : (b : Bool) → unless (count_fits count) (Err BadCount) (unless b (Err BadLength) (settings count at rs ps))
+        ≡ unless (count_fits count) (Err BadCount) (unless (b && true) (Err BadLength) (settings count at rs ps))
     by true = refl
     by false = refl
 
@@ -62,9 +62,8 @@ module _ (count : ℕ) (at rs ps : List ℕ) (k : ℕ) (below : k < count) where
         loads = λ c d. rw (stretch_stacked (next_at at rs ps) register_words (next_length at rs ps) k count below) (result_loads a r p x c d);
       }
 
-  pub why_true : (os : List ℕ) → clock_answer count at rs ps os ≡ Accepted
-      → ((why_of count at rs ps k).answer ≡ Accepted) × Truth count at rs ps k (why_of count at rs ps k).reason
-  unfolding why_of
-  why_true os accepted =
-      let same = why_as_clock count at rs ps os k (accepted_ready count at rs ps os accepted).outputs below ∙ accepted in
-      (same, subst⁻¹ (Truth count at rs ps k) (ap (λ (a : Answer). leaves (number_of a) (reason_at at rs ps k) no_reason) same) reason_true)
+  pub why_true : (os : List ℕ) → clock_answer count at rs ps os ≡ accepted
+      → (v : Reason) × (why_of count at rs ps k ≡ Ok v) × Truth count at rs ps k v
+  why_true os passed =
+      let same = why_as_clock count at rs ps os k (accepted_ready count at rs ps os passed).outputs below ∙ passed in
+      (reason_at at rs ps k, why_tells count at rs ps k same, reason_true)

@@ -2,6 +2,9 @@
 -- meet its `ensures` (`Post`, as rattle reads it from the source) are equal. Assumes nothing.
 use mathlib.Core.Path.{◌≡◌, sym, ◌∙◌}
 use contract.Lifetimes.{Lfts}
+use mir.Syntax.{Dict}
+use denote.RattleType.{RattleType}
+use denote.Param.Laws.{Laws}
 use denote.Triple.Clauses.{AtExit}
 use borrow.Fn.Kinds.{Dens, res_t, ended_of}
 use Rattle.word.proofs.Unique.{Once}
@@ -32,11 +35,11 @@ clear_once κs args r₁ r₂ x₁ x₂ a b = one_clear a b
 pub why_once : Once why_kinds.ps why_kinds.r why_reads.Post
 why_once _ _ _ _ _ _ a b = a ∙ sym b
 
-pub number_once : Once number_kinds.ps number_kinds.r number_reads.Post
-number_once _ _ _ _ _ _ a b = a ∙ sym b
+pub number_once : (T : RattleType) (laws : Laws T) (dict : Dict) → Once (number_kinds.ps T laws) (number_kinds.r T laws) (number_reads.Post T laws dict)
+number_once _ _ _ _ _ _ _ _ _ a b = a ∙ sym b
 
-pub place_once : Once place_kinds.ps place_kinds.r place_reads.Post
-place_once _ _ _ _ _ _ a b = a ∙ sym b
+pub place_once : (T : RattleType) (laws : Laws T) (dict : Dict) → Once (place_kinds.ps T laws) (place_kinds.r T laws) (place_reads.Post T laws dict)
+place_once _ _ _ _ _ _ _ _ _ a b = a ∙ sym b
 
 pub attributes_answer_once : Once attributes_answer_kinds.ps attributes_answer_kinds.r attributes_answer_reads.Post
 attributes_answer_once _ _ _ _ _ _ a b = a ∙ sym b

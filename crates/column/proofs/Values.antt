@@ -3,13 +3,15 @@ use mathlib.Core.Path.{◌≡◌, refl}
 use mathlib.Core.List.{List, [], ◌∷◌, ◌++◌}
 use Prim.Native.Nat.{ℕ, ◌-◌, ◌*◌, ◌^◌}
 use lib.ListN.{replicate, set}
+use Rattle.std.specs.Prelude.{Result}
+use Rattle.std.specs.Result.{result_unwrap_or}
 use Rattle.records.specs.Records.{attribute_words, register_words, output_words, exceeds}
 use Rattle.unit.specs.Unit.{arithmetic, lanes, logic_rows, unit_result, split_result, carry_out, wrapped_sum, pre_adder, product, load}
 use Rattle.unit.specs.Detector.{unmasked, detected}
 use Rattle.slice.specs.Slice.{controls_of, selects_of, paths_of, a_side, d_side, pre_added_of, left_of, right_of, product_of, operands_of, slice_operands, result_of, settled_carry, settled_of, slice_settled, outputs_of_settled, cascade_of, edge, next_of, slice_outputs, slice_cascade, slice_next}
 use Rattle.legal.specs.Legal.{off_list, bad_inmode, bad_opmode, bad_alumode, bad_carryinsel, breaks}
-use Rattle.reason.specs.Reason.{places_of, rule_of, reason_of, reason_words}
-use Rattle.column.specs.declared.Answer.{Answer}
+use Rattle.reason.specs.Reason.{places_of, rule_of, reason_of, reason_words, no_reason}
+use Rattle.column.specs.declared.Refusal.{Refusal}
 use Rattle.column.specs.Column.{cascade_into, shown_at, next_at, column_shown, column_next}
 use Rattle.column.specs.Refusals.{number_of, place_of, broken, fails, rules, settings, lengths_fit, inputs_fit, clock_answer, clear_answer, attributes_answer, why_answer}
 use Rattle.column.specs.Calls.{reason_at, why_of}
@@ -41,7 +43,7 @@ carry_taken = 0 ∷ 0 ∷ 0 ∷ 0 ∷ 0 ∷ 0 ∷ 0 ∷ 2 ∷ 0 ∷ 256 ∷ 0 �
 abbrev c_and_opmode : ℕ → ℕ → List ℕ
 c_and_opmode c opmode = 0 ∷ 0 ∷ c ∷ 0 ∷ opmode ∷ 0 ∷ 0 ∷ 0 ∷ 0 ∷ 256 ∷ 0 ∷ []
 
-abbrev told : Answer → List ℕ
+abbrev told : {A : Type 0} → Result A Refusal → List ℕ
 told a = number_of a ∷ place_of a ∷ []
 
 abbrev one : (at rs ps : List ℕ) → List ℕ
@@ -50,9 +52,9 @@ one at rs ps = told (clock_answer 1 at rs ps (replicate output_words 0))
 abbrev two : (at rs ps : List ℕ) → List ℕ
 two at rs ps = told (clock_answer 2 at rs ps (replicate (output_words * 2) 0))
 
--- the answer of `why` of slice k by number and place, and its words
+-- the answer of `why` of slice k by number and place, and the reason's words, or zeros
 abbrev why : (count : ℕ) → (at rs ps : List ℕ) → (k : ℕ) → List ℕ
-why count at rs ps k = told (why_of count at rs ps k).answer ++ reason_words (why_of count at rs ps k).reason
+why count at rs ps k = told (why_of count at rs ps k) ++ reason_words (result_unwrap_or (why_of count at rs ps k) no_reason)
 
 -- the packed run's settings (01, "Packed run")
 abbrev packed : List ℕ

@@ -18,7 +18,7 @@ use Rattle.records.specs.Records.{register_words, output_words, registers_of}
 use Rattle.slice.specs.Slice.{slice_operands, slice_next}
 use Rattle.slice.proofs.Adding.{Adder, Given, adds, cin_by_0, cin_by_2}
 use Rattle.slice.proofs.Registered.{registered_outputs}
-use Rattle.column.specs.declared.Answer.TheVariants.{Accepted}
+use Rattle.column.specs.Refusals.{accepted}
 use Rattle.column.specs.Calls.{Clocked}
 use Rattle.column.specs.Column.{stretch, attributes_at, registers_at, ports_at, cascade_into, shown_at, next_at, column_shown, column_next, after}
 use Rattle.column.proofs.Stacks.{stretch_stacked}
@@ -212,8 +212,8 @@ module _ (count : ℕ) (at ps ps' ps'' : List ℕ) (k u v : ℕ) (hu : u < 2 ^ 9
   shown_word rs ps j h = ap (λ (ws : List ℕ). get_or ws 0 0) (stretch_stacked (shown_at at rs ps) output_words (shown_length at rs ps) j count h)
 
   -- three accepted clocks, one after the other: what the second shows, and the third
-  module _ (rs rs₁ rs₂ rs₃ os₀ os₁ os₂ shown₀ shown₁ shown₂ : List ℕ) (first : Clocked count at rs ps os₀ Accepted rs₁ shown₀)
-      (second : Clocked count at rs₁ ps' os₁ Accepted rs₂ shown₁) (third : Clocked count at rs₂ ps'' os₂ Accepted rs₃ shown₂) where
+  module _ (rs rs₁ rs₂ rs₃ os₀ os₁ os₂ shown₀ shown₁ shown₂ : List ℕ) (first : Clocked count at rs ps os₀ accepted rs₁ shown₀)
+      (second : Clocked count at rs₁ ps' os₁ accepted rs₂ shown₁) (third : Clocked count at rs₂ ps'' os₂ accepted rs₃ shown₂) where
     pub wide_sum : (get_or (stretch output_words k shown₁) 0 0 ≡ (u + v) % 2 ^ 96 % 2 ^ 48)
         × (get_or (stretch output_words (suc k) shown₂) 0 0 ≡ (u + v) % 2 ^ 96 / 2 ^ 48)
     unfolding after

@@ -1,15 +1,15 @@
 -- The public calls as their callers see them: one answer, and one content of every lent word, for all inputs (01, "Refusal numbers":
 -- "A refusal stores nothing, in registers or in outputs"). Assumes nothing.
-use Rattle.std.specs.Prelude.{ℕ, ◌*◌, ◌≡◌, List, replicate}
+use Rattle.std.specs.Prelude.{ℕ, ◌*◌, ◌≡◌, List, replicate, Result, Ok}
+use Rattle.std.specs.Result.{result_and}
 use Rattle.std.proofs.Common.{◌∙◌, sym}
 use Rattle.lent.specs.Refusing.{leaves}
 use Rattle.records.specs.Records.{register_words}
 use Rattle.reason.specs.declared.Reason.{Reason}
-use Rattle.reason.specs.Reason.{reason_of, no_reason}
-use Rattle.column.specs.declared.Answer.{Answer}
-use Rattle.column.specs.declared.settling.Why.{Why}
+use Rattle.reason.specs.Reason.{reason_of}
+use Rattle.column.specs.declared.Refusal.{Refusal}
 use Rattle.column.specs.Column.{attributes_at, registers_at, ports_at, cascade_into, column_shown, column_next}
-use Rattle.column.specs.Refusals.{number_of, clock_answer, clear_answer, why_answer}
+use Rattle.column.specs.Refusals.{Answer, number_of, clock_answer, clear_answer, why_answer}
 
 -- `clock`: the answer r, the registers rs' and the outputs os' at exit
 pub record Clocked (count : ℕ) (at rs ps os : List ℕ) (r : Answer) (rs' os' : List ℕ) : Type 0 where
@@ -26,13 +26,9 @@ pub record Cleared (count : ℕ) (rs : List ℕ) (r : Answer) (rs' : List ℕ) :
 unfoldable pub reason_at : (at rs ps : List ℕ) → (k : ℕ) → Reason
 reason_at at rs ps k = reason_of (attributes_at at k) (registers_at rs k) (ports_at ps k) (cascade_into at rs ps k)
 
--- `why`: the answer, and the reason; a refusal leaves zeros
-unfoldable pub why_of : (count : ℕ) → (at rs ps : List ℕ) → (k : ℕ) → Why
-why_of count at rs ps k =
-    record {
-      answer = why_answer count at rs ps k;
-      reason = leaves (number_of (why_answer count at rs ps k)) (reason_at at rs ps k) no_reason;
-    }
+-- `why`: the reason, or what is refused
+unfoldable pub why_of : (count : ℕ) → (at rs ps : List ℕ) → (k : ℕ) → Result Reason Refusal
+why_of count at rs ps k = result_and (why_answer count at rs ps k) (Ok (reason_at at rs ps k))
 
 -- no second outcome fits
 pub one_clock : {count : ℕ} {at rs ps os : List ℕ} {r₁ r₂ : Answer} {rs₁ rs₂ os₁ os₂ : List ℕ}

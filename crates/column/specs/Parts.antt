@@ -1,21 +1,16 @@
 -- What the parts of the code promise one another; no caller needs it. Assumes nothing.
-use Rattle.std.specs.Prelude.{ℕ, ◌+◌, ◌*◌, ◌≤◌, ◌≡◌, Bool, true, cond, ◌&&◌, List, [], ◌∷◌, T, ltb, leb, length}
+use Rattle.std.specs.Prelude.{ℕ, ◌+◌, ◌*◌, ◌≤◌, ◌≡◌, Bool, true, cond, ◌&&◌, List, [], ◌∷◌, T, ltb, leb, length, Option, None, Some, Err}
 use Rattle.lent.specs.Refusing.{unless}
 use Rattle.records.specs.declared.Attributes.{Attributes}
 use Rattle.records.specs.declared.Ports.{Ports}
-use Rattle.records.specs.Records.{attribute_words, register_words, port_words, output_words, exceeds, registers_of, registers_words, outputs_words}
+use Rattle.records.specs.Records.{attribute_words, register_words, port_words, exceeds, registers_of, registers_words, outputs_words}
 use Rattle.slice.specs.declared.inputs.Cascade.{Cascade}
 use Rattle.slice.specs.Slice.{slice_outputs, slice_cascade, slice_next}
-use Rattle.reason.specs.Reason.{no_reason}
 use Rattle.legal.specs.declared.rules.Rule.{Rule}
 use Rattle.legal.specs.Legal.{off_list, breaks}
-use Rattle.column.specs.declared.refusals.Found.{Found}
-use Rattle.column.specs.declared.refusals.Found.TheVariants.{Nothing, At}
-use Rattle.column.specs.declared.settling.Why.{Why}
-use Rattle.column.specs.declared.Answer.{Answer}
-use Rattle.column.specs.declared.Answer.TheVariants.{Accepted, BadCount, BadLength, BadSlice}
+use Rattle.column.specs.declared.Refusal.TheVariants.{BadCount, BadLength, BadSlice}
 use Rattle.column.specs.Column.{stretch, attributes_at, registers_at, ports_at, column_shown, column_next}
-use Rattle.column.specs.Refusals.{count_fits, inputs_fit}
+use Rattle.column.specs.Refusals.{Answer, accepted, count_fits, inputs_fit}
 
 -- the lent words of n slices have their lengths
 pub record Lengths (n : ℕ) (at rs ps : List ℕ) : Type 0 where
@@ -23,27 +18,20 @@ pub record Lengths (n : ℕ) (at rs ps : List ℕ) : Type 0 where
   pub registers : length rs ≡ register_words * n
   pub ports : length ps ≡ port_words * n
 
--- a clock that is tried on a copy: the count and all lengths are right
-pub record Tried (count : ℕ) (at rs ps copy shown : List ℕ) : Type 0 where
-  pub counted : count_fits count ≡ true
-  pub lengths : Lengths count at rs ps
-  pub copied : length copy ≡ register_words * count
-  pub room : length shown ≡ output_words * count
-
 -- the lent words reach to the end of slice k's
 pub record Reaches (k : ℕ) (at rs ps : List ℕ) : Type 0 where
   pub attributes : attribute_words * k + attribute_words ≤ length at
   pub registers : register_words * k + register_words ≤ length rs
   pub ports : port_words * k + port_words ≤ length ps
 
--- what a refused `why` tells
-abbrev pub refused_why : Answer → Why
-refused_why answer = record { answer = answer; reason = no_reason }
+-- 1 and 2 of what a clock and `why` are lent alike
+abbrev pub inputs_answer : (count : ℕ) → (at rs ps : List ℕ) → Answer
+inputs_answer count at rs ps = unless (count_fits count) (Err BadCount) (unless (inputs_fit count at rs ps) (Err BadLength) accepted)
 
 -- the checks of `why` that come before 3 to 9
 unfoldable pub asked_answer : (count : ℕ) → (at rs ps : List ℕ) → (k : ℕ) → Answer
 asked_answer count at rs ps k =
-    unless (count_fits count) BadCount (unless (inputs_fit count at rs ps) BadLength (unless (ltb k count) BadSlice Accepted))
+    unless (count_fits count) (Err BadCount) (unless (inputs_fit count at rs ps) (Err BadLength) (unless (ltb k count) (Err BadSlice) accepted))
 
 -- ---- the limit check
 
@@ -61,10 +49,10 @@ pub record Table (widths words : List ℕ) (count : ℕ) : Type 0 where
 unfoldable pub over : (widths words : List ℕ) → (k : ℕ) → Bool
 over widths words k = exceeds widths (stretch (length widths) k words)
 
-abbrev pub earlier_of : Found → Found → Found
-earlier_of Nothing g = g
-earlier_of (At i) Nothing = At i
-earlier_of (At i) (At j) = cond (leb i j) (At i) (At j)
+abbrev pub earlier_of : Option ℕ → Option ℕ → Option ℕ
+earlier_of None g = g
+earlier_of (Some i) None = Some i
+earlier_of (Some i) (Some j) = cond (leb i j) (Some i) (Some j)
 
 -- ---- the settings of slice k
 

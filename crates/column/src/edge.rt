@@ -4,7 +4,7 @@ ghost use Rattle.std.specs.Prelude.{◌≡◌, ◌≤◌, ◌*◌, length};
 ghost use Rattle.records.specs.Records.{register_words, output_words};
 ghost use Rattle.column.specs.Parts.{Lengths, Edged, AllEdged};
 
-use crate::stretch::{attributes_at, ports_at};
+use crate::stretch::record_at;
 use records::{Attributes, Outputs, Ports, Registers};
 use slice::Cascade;
 
@@ -25,7 +25,9 @@ fn one_edge(
     step.up
 }
 
-// The edge of every slice.
+// The edge of every slice. Each is lent its part by its place, where `chunks_exact_mut` would do: 01 names the form. No `Inputs`: the
+// registers are lent to be written.
+#[tactic(auto, unfolding(crate::specs::Column::cascade_into))]
 pub fn all_edges(
     count: usize,
     attributes: &[u64],
@@ -36,19 +38,14 @@ pub fn all_edges(
     requires { (count ≤ 24) × Lengths count attributes.now registers.old ports.now × (length outputs.old ≡ output_words * count) }
     ensures { AllEdged count attributes.now registers.old ports.now registers.new outputs.new }
 {
-    let mut below = Cascade {
-        a: 0,
-        b: 0,
-        p: 0,
-        carry: 0,
-    };
+    let mut below = Cascade::default();
     for k in 0..count {
         let r = Registers::WORDS * k;
         let o = Outputs::WORDS * k;
         below = one_edge(
-            attributes_at(attributes, k),
+            record_at(attributes, k),
             &mut registers[r..r + Registers::WORDS],
-            ports_at(ports, k),
+            record_at(ports, k),
             &mut outputs[o..o + Outputs::WORDS],
             below,
         );

@@ -7,34 +7,32 @@ ghost use Rattle.column.specs.Refusals.{number_of, place_of};
 ghost use Rattle.column.specs.Calls.{Clocked, Cleared, why_of};
 
 mod edge;
+mod inputs;
 mod refusals;
 mod settling;
 mod stretch;
 
+use inputs::Inputs;
 pub use reason::Reason;
+use records::MOST_SLICES;
 pub use records::{Attributes, Outputs, Ports, Registers};
 pub use refusals::attributes_answer;
-pub use settling::Why;
-
-// The slices of a column at most.
-const MOST_SLICES: usize = 24;
 
 // The checks that look into the lent words: numbers 3 to 9.
-#[derive(Clone, Copy)]
+#[derive(Clone, Copy, PartialEq, Eq)]
 pub enum Check {
-    Attribute,
-    Register,
-    Port,
-    Inmode,
-    Opmode,
-    Alumode,
-    Carryinsel,
+    Attribute = 3,
+    Register = 4,
+    Port = 5,
+    Inmode = 6,
+    Opmode = 7,
+    Alumode = 8,
+    Carryinsel = 9,
 }
 
-// What a call answers. `Broken` names the check and the lowest slice that fails it; `BadSlice` is an answer of `why` alone.
-#[derive(Clone, Copy)]
-pub enum Answer {
-    Accepted,
+// What a call refuses. `Broken` names the check and the lowest slice that fails it; `BadSlice` is a refusal of `why` alone.
+#[derive(Clone, Copy, PartialEq, Eq)]
+pub enum Refusal {
     BadCount,
     BadLength,
     Broken(Check, usize),
@@ -42,76 +40,70 @@ pub enum Answer {
 }
 
 // One clock: the outputs settle from the registers before the edge and the ports; then all registers load at once.
+#[tactic(auto, using(crate::proofs::Answers::accepted_ready))]
 pub fn clock(
     count: usize,
     attributes: &[u64],
     registers: &mut [u64],
     ports: &[u64],
     outputs: &mut [u64],
-) -> Answer
+) -> Result<(), Refusal>
     ensures { Clocked count attributes.now registers.old ports.now outputs.old result registers.new outputs.new }
 {
-    let answer = refusals::clock_answer(count, attributes, &registers[..], ports, &outputs[..]);
-    let Answer::Accepted = answer else {
-        return answer;
-    };
+    refusals::clock_answer(count, attributes, &registers[..], ports, &outputs[..])?;
     edge::all_edges(count, attributes, registers, ports, outputs);
-    Answer::Accepted
+    Ok(())
 }
 
 // Every register becomes 0.
-pub fn clear(count: usize, registers: &mut [u64]) -> Answer
+#[tactic(auto, using(crate::proofs::Answers::cleared_length))]
+pub fn clear(count: usize, registers: &mut [u64]) -> Result<(), Refusal>
     ensures { Cleared count registers.old result registers.new }
 {
-    let answer = refusals::clear_answer(count, &registers[..]);
-    let Answer::Accepted = answer else {
-        return answer;
-    };
+    refusals::clear_answer(count, &registers[..])?;
     lent::zero(registers);
-    Answer::Accepted
+    Ok(())
 }
 
 // Why a slice's P is what it is in this clock: the unit's operands, where each comes from, the rule, and the result. Nothing is
 // stored.
-pub fn why(count: usize, attributes: &[u64], registers: &[u64], ports: &[u64], slice: usize) -> Why
+#[tactic(auto, unfolding(crate::specs::Calls::why_of, crate::specs::Refusals::why_answer))]
+pub fn why(
+    count: usize,
+    attributes: &[u64],
+    registers: &[u64],
+    ports: &[u64],
+    slice: usize,
+) -> Result<Reason, Refusal>
     ensures { result ≡ why_of count attributes.now registers.now ports.now slice }
 {
-    let asked = refusals::asked_answer(count, attributes, registers, ports, slice);
-    let Answer::Accepted = asked else {
-        return settling::refused(asked);
-    };
-    let answer = settling::clock_answer(count, attributes, registers, ports);
-    let Answer::Accepted = answer else {
-        return settling::refused(answer);
-    };
-    Why {
-        answer: Answer::Accepted,
-        reason: settling::reason_at(attributes, registers, ports, slice),
+    let inputs = Inputs::of(count, attributes, registers, ports)?;
+    if count <= slice {
+        return Err(Refusal::BadSlice);
     }
+    inputs.clock_answer()?;
+    Ok(inputs.reason_at(slice))
 }
 
-// The number of an answer, 01's and 02's.
-pub fn number(answer: Answer) -> u64
+// The number of an answer, 01's and 02's, which C is told. No `From`: `number_once` and its callers are of this call.
+pub fn number<T: Drop>(answer: Result<T, Refusal>) -> u64
     ensures { result ≡ number_of answer }
 {
     match answer {
-        Answer::Accepted => 0,
-        Answer::BadCount => 1,
-        Answer::BadLength => 2,
-        Answer::Broken(check, _) => refusals::check_number(check),
-        Answer::BadSlice => 13,
+        Ok(_) => 0,
+        Err(Refusal::BadCount) => 1,
+        Err(Refusal::BadLength) => 2,
+        Err(Refusal::Broken(check, _)) => check as u64,
+        Err(Refusal::BadSlice) => 13,
     }
 }
 
 // The slice that an answer reports.
-pub fn place(answer: Answer) -> usize
+pub fn place<T: Drop>(answer: Result<T, Refusal>) -> usize
     ensures { result ≡ place_of answer }
 {
     match answer {
-        Answer::Accepted => 0,
-        Answer::BadCount => 0,
-        Answer::BadLength => 0,
-        Answer::Broken(_, k) => k,
-        Answer::BadSlice => 0,
+        Err(Refusal::Broken(_, k)) => k,
+        _ => 0,
     }
 }

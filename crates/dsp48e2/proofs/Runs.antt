@@ -5,18 +5,18 @@ use mathlib.Core.List.{List}
 use lib.Dec.{eqb, lit<}
 use lib.ListN.{length}
 use lib.IntN.{ℤ}
-use Rattle.packed.specs.declared.Run.{Run}
-use Rattle.packed.specs.declared.Run.TheVariants.{Ran, BadTerms, BadRows, BadLength, Overfull}
+use Rattle.std.specs.Prelude.{Ok, Err}
+use Rattle.packed.specs.declared.Refusal.TheVariants.{BadTerms, BadRows, BadLength, Overfull}
 use Rattle.packed.specs.Packed.{most_rows, Batch, run_clocks, run_list}
-use Rattle.packed.specs.Calls.{number_of, place_of, clocked_run, plain_run}
+use Rattle.packed.specs.Calls.{Run, number_of, place_of, clocked_run, plain_run}
 use Rattle.packed.proofs.Passing.{checked_place}
 
 pub run_number_small : (run : Run) → number_of run < 256
-run_number_small (Ran clocks) = lit< tt
-run_number_small BadTerms = lit< tt
-run_number_small BadRows = lit< tt
-run_number_small BadLength = lit< tt
-run_number_small (Overfull row) = lit< tt
+run_number_small (Ok clocks) = lit< tt
+run_number_small (Err BadTerms) = lit< tt
+run_number_small (Err BadRows) = lit< tt
+run_number_small (Err BadLength) = lit< tt
+run_number_small (Err (Overfull row)) = lit< tt
 
 pub clocked_place : (g : Batch) (os : List ℤ) (ws : List ℕ) → place_of (clocked_run g os ws) < most_rows
 unfolding clocked_run

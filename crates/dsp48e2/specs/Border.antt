@@ -1,19 +1,18 @@
 -- The border for C (01, "Adder call for the C bench", and the other calls alike): every call on plain numbers and lent words, and one
 -- rule for refusals, of which the adder's two are the place 0. A slice passes as a pointer and a length. Assumes nothing.
-use Rattle.std.specs.Prelude.{ℕ, ◌+◌, ◌*◌, ◌^◌, ◌≡◌, Bool, cond, ◌||◌, List, eqb, ℤ, length, replicate}
+use Rattle.std.specs.Prelude.{ℕ, ◌+◌, ◌*◌, ◌^◌, ◌≡◌, Bool, cond, ◌||◌, List, eqb, ℤ, length, replicate, Err}
+use Rattle.std.specs.Result.{result_unwrap_or}
 use Rattle.std.proofs.Common.{◌∙◌, sym}
 use Rattle.lent.specs.Words.{stored}
 use Rattle.lent.specs.Refusing.{unless, leaves}
-use Rattle.reason.specs.Reason.{why_words, reason_words}
+use Rattle.reason.specs.Reason.{why_words, no_reason, reason_words}
 use Rattle.records.specs.Records.{register_words}
-use Rattle.column.specs.declared.Answer.{Answer}
-use Rattle.column.specs.declared.Answer.TheVariants.{BadLength}
+use Rattle.column.specs.declared.Refusal.TheVariants.{BadLength}
 use Rattle.column.specs.Column.{column_shown, column_next}
-use Rattle.column.specs.Refusals.{number_of, place_of, clock_answer, clear_answer, why_answer}
+use Rattle.column.specs.Refusals.{Answer, number_of, place_of, clock_answer, clear_answer, why_answer}
 use Rattle.column.specs.Calls.{why_of}
-use Rattle.packed.specs.declared.Run.{Run}
 use Rattle.packed.specs.Packed.{Batch, run_list, read_answers, plain_answers}
-use Rattle.packed.specs.Calls.{number_of as run_number, place_of as run_place, clocks_of, clocked_run, plain_run}
+use Rattle.packed.specs.Calls.{Run, number_of as run_number, place_of as run_place, clocks_of, clocked_run, plain_run}
 
 -- a refusal: 2^48, 256 for each slice (of a packed run each row) below the one reported, and the number
 abbrev pub refusal : (place number : ℕ) → ℕ
@@ -36,12 +35,12 @@ pub record ClearedC (count : ℕ) (rs : List ℕ) (r : ℕ) (rs' : List ℕ) : T
 
 -- `why` is lent as many words as a reason has; another length is number 2, which only 1 comes before (02, Ask 3: "after 2")
 unfoldable pub why_lent : (fits : Bool) → Answer → Answer
-why_lent fits a = unless (fits || eqb (number_of a) 1) BadLength a
+why_lent fits a = unless (fits || eqb (number_of a) 1) (Err BadLength) a
 
 -- `dsp_why` of slice k, with the lent words ws: the words of the reason, which are zeros where refused, if there is room for exactly them
 pub record WhyC (count : ℕ) (at rs ps : List ℕ) (k : ℕ) (ws : List ℕ) (r : ℕ) (ws' : List ℕ) : Type 0 where
   pub word : r ≡ word_of (why_lent (eqb (length ws) why_words) (why_answer count at rs ps k))
-  pub why : ws' ≡ stored ws (reason_words (why_of count at rs ps k).reason)
+  pub why : ws' ≡ stored ws (reason_words (result_unwrap_or (why_of count at rs ps k) no_reason))
 
 -- the returned word of a packed run: the clocks it stepped, which are 0 for the plain run
 unfoldable pub run_word : Run → ℕ

@@ -8,8 +8,8 @@ ghost use Rattle.dsp48e2.specs.Border.{refusal, word_of, ClockedC, ClearedC, why
 ghost use Rattle.packed.specs.Packed.{most_rows, batch};
 ghost use Rattle.packed.specs.Calls.{place_of as run_place};
 
-use column::{Answer, Reason};
-use packed::Run;
+use column::{Reason, Refusal};
+use unit::Operands;
 
 // A refusal's word, whatever was refused.
 fn refused(place: usize, number: u64) -> u64
@@ -21,15 +21,14 @@ fn refused(place: usize, number: u64) -> u64
 
 // The returned word of an answer.
 #[tactic(auto, unfolding(crate::specs::Border::word_of))]
-fn word_of(answer: Answer) -> u64
+fn word_of(answer: Result<(), Refusal>) -> u64
     requires { place_of answer < 24 }
     ensures { result ≡ word_of answer }
 {
-    let number = column::number(answer);
-    if number == 0 {
-        return 0;
+    match answer {
+        Ok(()) => 0,
+        Err(_) => refused(column::place(answer), column::number(answer)),
     }
-    refused(column::place(answer), number)
 }
 
 // The adder on six plain numbers: the result, or 2^48+5 when a word is over width, or else 2^48+8 when the mode forbids it.
@@ -37,7 +36,7 @@ fn word_of(answer: Answer) -> u64
 pub extern "C" fn dsp_adder(w: u64, x: u64, y: u64, z: u64, cin: u64, alumode: u64) -> u64
     ensures { result ≡ adder w x y z cin alumode }
 {
-    unit::adder(w, x, y, z, cin, alumode)
+    unit::adder(Operands { w, x, y, z, cin }, alumode)
 }
 
 // One clock of a column; 0 when accepted.
@@ -64,13 +63,13 @@ pub extern "C" fn dsp_clear(count: u64, registers: &mut [u64]) -> u64
 
 // A `why` of another length is number 2, which only 1 comes before.
 #[tactic(auto, unfolding(crate::specs::Border::why_lent))]
-fn why_lent(fits: bool, answer: Answer) -> Answer
+fn why_lent(fits: bool, answer: Result<(), Refusal>) -> Result<(), Refusal>
     ensures { result ≡ why_lent fits answer }
 {
-    if fits | (column::number(answer) == 1) {
-        answer
-    } else {
-        Answer::BadLength
+    match answer {
+        Err(Refusal::BadCount) => answer,
+        _ if fits => answer,
+        _ => Err(Refusal::BadLength),
     }
 }
 
@@ -87,24 +86,21 @@ pub extern "C" fn dsp_why(
     ensures { WhyC count attributes.now registers.now ports.now slice why.old result why.new }
 {
     let told = column::why(count as usize, attributes, registers, ports, slice as usize);
-    let answer = told.answer;
     let fits = why.len() == Reason::WORDS;
-    let words = told.reason.words();
-    lent::store(why, &words);
-    word_of(why_lent(fits, answer))
+    lent::store(why, &told.unwrap_or(Reason::none()).words());
+    word_of(why_lent(fits, told.and(Ok(()))))
 }
 
-// The returned word of a packed run.
+// The returned word of a packed run. No trait over both crates' refusals: it would be no plainer for two, of which one has clocks.
 #[tactic(auto, unfolding(crate::specs::Border::run_word))]
-fn run_word(run: Run) -> u64
+fn run_word(run: Result<u64, packed::Refusal>) -> u64
     requires { run_place run < most_rows }
     ensures { result ≡ run_word run }
 {
-    let number = packed::number(run);
-    if number == 0 {
-        return packed::clocks(run);
+    match run {
+        Ok(clocks) => clocks,
+        Err(_) => refused(packed::place(run), packed::number(run)),
     }
-    refused(packed::place(run), number)
 }
 
 // The packed run, stepped clock by clock: the clocks it stepped when accepted, one for each word of the list.

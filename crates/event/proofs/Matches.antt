@@ -1,11 +1,12 @@
 -- What is shown of an event. Assumes nothing.
 use mathlib.Core.Path.{◌≡◌, refl}
 use mathlib.Core.Logic.{⊎_elim}
-use mathlib.Core.Bool.{false}
+use mathlib.Core.Bool.{Bool, true, false}
 use mathlib.Core.List.{List, [], ◌∷◌}
-use Prim.Native.Nat.{ℕ, ◌+◌, ◌*◌, ◌≤◌}
+use Prim.Native.Nat.{ℕ, ◌+◌, ◌*◌, ◌-◌, ◌^◌, ◌<◌, ◌≤◌, min}
+use borrow.Author.Tests.{ltb-true, ltb-false}
 use native.Mathlib.Omega.{arith}
-use lib.Dec.{eqb}
+use lib.Dec.{eqb, ltb}
 use lib.ListN.{length, get_or, get_or-eq_default}
 use types.Run.{OneOf}
 use denote.Enum.Declared.{tag_of}
@@ -22,8 +23,20 @@ module _ (k : ℕ) (os : List ℕ) where
   unfolding detects
   detects_by_word = rw (stretch_word output_words k 1 os (omega arith))
 
-  pub not_lent : length os ≤ output_words * k + 1 → detects k os ≡ false
-  not_lent h = rw (detects_by_word, get_or-eq_default os 0 {n = output_words * k + 1} h)
+  -- and a place that would wrap lies beyond what can be lent, as the word's own place does
+  pub detects_at : (place : ℕ) → place ≡ min (min (k * output_words) (2 ^ 64 - 1) + 1) (2 ^ 64 - 1) → length os < 2 ^ 64
+      → eqb (get_or os place 0) 1 ≡ detects k os
+  detects_at place e h = go (ltb place (length os)) refl
+    where
+      go : (t : Bool) → ltb place (length os) ≡ t → eqb (get_or os place 0) 1 ≡ detects k os
+      go true l =
+          let within : place < length os = ltb-true place (length os) l in
+          let same : place ≡ output_words * k + 1 = omega arith in
+          rw (detects_by_word, same)
+      go false l =
+          let beyond : length os ≤ place = ltb-false place (length os) l in
+          let there : length os ≤ output_words * k + 1 = omega arith in
+          rw (detects_by_word, get_or-eq_default os 0 {n = place} beyond, get_or-eq_default os 0 {n = output_words * k + 1} there)
 
 -- an event of another variant than a clock is shown as it is
 pub unmatched : (k : ℕ) (e : Event) (os : List ℕ) → OneOf (0 ∷ 2 ∷ 3 ∷ 4 ∷ []) (tag_of the_type e) → matched k e os ≡ e

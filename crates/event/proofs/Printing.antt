@@ -1,22 +1,21 @@
 -- What is printed of an event: how long it can be, and how the lines of a clock are put one after the other. Assumes nothing.
 use mathlib.Core.Path.{◌≡◌, refl, sym, ap, ◌∙◌}
-use mathlib.Core.Bool.{Bool, true, false, cond, ◌||◌, and-false}
+use mathlib.Core.Bool.{Bool, true, false, cond}
 use mathlib.Core.List.{List, [], ◌∷◌, ◌++◌, append_assoc, append-nil}
-use Prim.Native.Nat.{ℕ, zero, suc, ◌+◌, ◌*◌, ◌-◌, ◌/◌, ◌<◌, ◌≤◌}
+use Prim.Native.Nat.{ℕ, zero, suc, ◌+◌, ◌*◌, ◌-◌, ◌<◌, ◌≤◌}
 use native.Mathlib.Nat.{mul-suc, mul-le-mul_left}
 use native.Mathlib.Numerals.{add-one}
 use native.Mathlib.Omega.{arith}
 use lib.ListN.{length, take, drop, length-append, length-take}
-use lib.Dec.{leb, ltb}
-use borrow.Author.Tests.{le-leb, lt-leb, leb-true, ltb-true, ltb-false}
+use lib.Dec.{leb}
+use borrow.Author.Tests.{le-leb, leb-true}
 use Rattle.word.proofs.Laws.{both_true}
 use Rattle.records.specs.Records.{output_words}
-use Rattle.records.proofs.Searching.{or_false}
 use Rattle.column.specs.Column.{stretch}
-use Rattle.column.proofs.Stacks.{part_count}
+use lib.Seq.{drop-append-add}
+use Rattle.std.proofs.Common.{take_at, drop-drop, length-drop}
 use Rattle.text.specs.Bytes.{field_room}
 use Rattle.text.specs.Printed.{printed, room_for, line_within, Put}
-use Rattle.text.proofs.Numerals.{cond_same}
 use Rattle.text.proofs.Decimal.{printed_length, line_fits}
 use Rattle.text.proofs.Paste.{put_more, put_length}
 use Rattle.event.specs.declared.Event.{Event}
@@ -88,11 +87,6 @@ event_fits_lem (Matched clock) count os at out h room = rw (le-leb (field_room *
 event_fits_lem (Refused number clocks place) count os at out h room = rw (le-leb (field_room * 4) (length out - at) (omega arith))
 event_fits_lem (Ended clocks) count os at out h room = rw (le-leb (field_room * 2) (length out - at) (omega arith))
 
--- a line that is put where there is room for it
-pub line_put : (letter : ℕ) (ns : List ℕ) (at : ℕ) (out : List ℕ) {r : ℕ} {out' : List ℕ} → Put at (line_within letter ns at out) out r out'
-    → Put at (cond (room_for (length ns) at out) (printed_lines (line_with letter ns ∷ [])) []) out r out'
-line_put letter ns at out p = rw (printed_one letter ns) p
-
 -- what is printed lies within the lent bytes
 line_within_lem : (letter : ℕ) (ns : List ℕ) (at : ℕ) (out : List ℕ)
     → length (cond (room_for (length ns) at out) (printed_lines (line_with letter ns ∷ [])) []) ≤ length out - at
@@ -120,45 +114,26 @@ within_room (Matched clock) count os at out = line_within_lem letter_m (clock �
 within_room (Refused number clocks place) count os at out = line_within_lem letter_r (number ∷ clocks ∷ place ∷ []) at out
 within_room (Ended clocks) count os at out = line_within_lem letter_e (clocks ∷ []) at out
 
--- the tests of `put`, and what is printed of a clock where one of them fails
-module _ (count : ℕ) (os : List ℕ) (at : ℕ) (out : List ℕ) where
-  abbrev lacks : Bool
-  lacks = ltb (length os / output_words) count || ltb ((length out - at) / output_room) count
+-- a chunk of what is left of the outputs is the stretch of the slice that is due, and what follows it is left for the next
+pub chunk_first : (k : ℕ) (os rest shown more : List ℕ) → rest ≡ drop (output_words * k) os → rest ≡ shown ++ more → length shown ≡ output_words
+    → (shown ≡ stretch output_words k os) × (more ≡ drop (output_words * (k + 1)) os)
+chunk_first k os rest shown more e f l =
+    let both : shown ++ more ≡ drop (output_words * k) os = sym f ∙ e in
+    let next : output_words * k + output_words ≡ output_words * (k + 1) = omega arith in
+    let whole : output_words ≡ length shown + 0 = omega (arith, l) in
+    let after : drop output_words (shown ++ more) ≡ more = ap (λ (n : ℕ). drop n (shown ++ more)) whole ∙ drop-append-add shown more 0 in (
+      sym (take_at shown more output_words l) ∙ ap (take output_words) both,
+      sym after ∙ ap (drop output_words) both ∙ drop-drop output_words (output_words * k) os ∙ ap (λ (n : ℕ). drop n os) next,
+    )
 
-  pub clock_has : lacks ≡ false → (output_words * count ≤ length os) × (output_room * count ≤ length out - at)
-  clock_has h =
-      let neither = or_false (ltb (length os / output_words) count) (ltb ((length out - at) / output_room) count) h in (
-        omega (arith, ltb-false (length os / output_words) count neither.0),
-        omega (arith, ltb-false ((length out - at) / output_room) count neither.1),
-      )
-
-  module _ (clock : ℕ) where
-    pub outside : length out < at → bytes_within (Clocked clock) count os at out ≡ []
-    unfolding bytes_within
-    outside h = go count
-      where
-        go : (n : ℕ) → bytes_within (Clocked clock) n os at out ≡ []
-        go zero = cond_same (clock_fits zero os at out) []
-        go (suc n) = rw (lt-leb (output_room * suc n) (length out - at) (omega arith), and-false (leb (output_words * suc n) (length os)))
-
-    pub clock_lacks : lacks ≡ true → bytes_within (Clocked clock) count os at out ≡ []
-    unfolding bytes_within
-    clock_lacks h = go (ltb (length os / output_words) count) (ltb ((length out - at) / output_room) count) refl refl h
-      where
-        go : (a b : Bool) → ltb (length os / output_words) count ≡ a → ltb ((length out - at) / output_room) count ≡ b → a || b ≡ true
-            → bytes_within (Clocked clock) count os at out ≡ []
-        go true b e f h = rw (lt-leb (output_words * count) (length os) (omega (arith, ltb-true (length os / output_words) count e)))
-        go false true e f h =
-            rw (
-              lt-leb (output_room * count) (length out - at) (omega (arith, ltb-true ((length out - at) / output_room) count f)),
-              and-false (leb (output_words * count) (length os)),
-            )
-        go false false e f h = let z : ◌≡◌ {A = Bool} false true = h in cc
-
-    pub clock_fits_lem : lacks ≡ false → bytes_within (Clocked clock) count os at out ≡ bytes_of (Clocked clock) count os
-    unfolding bytes_within
-    clock_fits_lem h =
-        rw (le-leb (output_words * count) (length os) (clock_has h).0, le-leb (output_room * count) (length out - at) (clock_has h).1)
+-- and where there is none, all slices are printed
+pub chunks_end : (left k count size : ℕ) (os rest : List ℕ) → left + k ≡ count → rest ≡ drop (output_words * k) os → size ≡ output_words
+    → output_words * count ≤ length os → (0 < left → length rest < size) → k ≡ count
+chunks_end zero k count size os rest e f g lent none = omega arith
+chunks_end (suc left) k count size os rest e f g lent none =
+    let few : length rest < size = none (omega arith) in
+    let much : length rest ≡ length os - output_words * k = ap (λ (ws : List ℕ). length ws) f ∙ length-drop (output_words * k) os in
+    omega arith
 
 -- ---- the loop that prints a clock's lines
 
@@ -176,16 +151,15 @@ module _ (clock count at k end : ℕ) (os out₀ out : List ℕ) (so_far : Put a
       line_room_lem : end + output_room ≤ length out
       line_room_lem = omega (arith, so_long, kept_room, so_far.ends, mul-suc output_room k, mul-le-mul_left output_room turn)
 
-      -- which is the slice's own stretch, as it is lent
-      pub one_line : (r : ℕ) (out' : List ℕ)
-          → (let shown = take (output_words * k + output_words - output_words * k) (drop (output_words * k) os) in
-          Put end (line_within letter_o ((clock ∷ k ∷ []) ++ shown) end out) out r out') → Put at (printed_lines (listed (output_line clock os) (k + 1))) out₀ r out'
-      one_line r out' p =
+      -- which is the slice's own stretch
+      pub one_line : (shown : List ℕ) → shown ≡ stretch output_words k os → (r : ℕ) (out' : List ℕ)
+          → Put end (line_within letter_o ((clock ∷ k ∷ []) ++ shown) end out) out r out' → Put at (printed_lines (listed (output_line clock os) (k + 1))) out₀ r out'
+      one_line shown own r out' p =
           let ns = clock ∷ k ∷ stretch output_words k os in
           let few : length (stretch output_words k os) ≤ output_words = omega (arith, length-take output_words (drop (output_words * k) os)) in
           let fits : line_within letter_o ns end out ≡ printed letter_o ns = line_fits letter_o ns end out (omega (arith, line_room_lem)) in
           rw (ap (λ (n : ℕ). printed_lines (listed (output_line clock os) n)) (add-one k), printed_more (output_line clock os) k)
-          (put_more so_far (rw (part_count output_words k, fits) at p) (omega (arith, so_long, mul-le-mul_left output_room most)))
+          (put_more so_far (rw (own, fits) at p) (omega (arith, so_long, mul-le-mul_left output_room most)))
 
   pub all_slices : k ≡ count → Put at (printed_lines (listed (output_line clock os) count)) out₀ end out
   all_slices e = rw e at so_far

@@ -7,21 +7,20 @@ use player::Shows;
 use records::Outputs;
 
 // A slice shows PATTERNDETECT. It shows nothing where its outputs are not lent.
+#[tactic(auto, using(crate::proofs::Matches::detects_at))]
 fn detects(slice: usize, outputs: &[u64]) -> bool
     ensures { result ≡ detects slice outputs.now }
 {
-    if outputs.len() / Outputs::WORDS < slice {
-        return false;
-    }
-    let first = Outputs::WORDS * slice;
-    if outputs.len() - first <= Outputs::PATTERNDETECT {
-        return false;
-    }
-    outputs[first + Outputs::PATTERNDETECT] == 1
+    // A place that would wrap is none, as no slice has a word at usize::MAX.
+    let place = slice
+        .saturating_mul(Outputs::WORDS)
+        .saturating_add(Outputs::PATTERNDETECT);
+    outputs.get(place).copied().unwrap_or(0) == 1
 }
 
 // Of a column that shows these outputs: the event as it is; or, where the first match is looked for, the match in the place of a clock,
 // and nothing for a clock that is none.
+#[tactic(auto, unfolding(crate::specs::Showing::shown))]
 pub fn shown(shows: Shows, event: Event, outputs: &[u64]) -> Event
     ensures { result ≡ shown shows event outputs.now }
 {

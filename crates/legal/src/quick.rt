@@ -31,11 +31,12 @@ const WITH_AD: u64 = 12;
 fn split_mark(mult: u64, simd: u64) -> u64
     ensures { mult < 2 → simd < 4 → nat_lt result 4 ≡ split_fits mult simd }
 {
-    std::num::wrapping_add_u64(std::num::wrapping_add_u64(mult << 1, simd), 1)
+    (mult << 1).wrapping_add(simd).wrapping_add(1)
 }
 
 // 0 exactly where no word has anything above its width, nor a mark above two bits. The widest go first, and each shift takes them down to
 // the next width.
+#[tactic(auto, using(crate::proofs::Excess::excess_exact))]
 fn excess(a: Attributes, r: Registers, p: Ports, mark: u64) -> u64
     ensures { (result == 0) ≡ (within_widths a r p && nat_lt mark 4) }
 {
@@ -67,10 +68,11 @@ fn excess(a: Attributes, r: Registers, p: Ports, mark: u64) -> u64
 fn marked(table: u64, place: u64) -> bool
     ensures { result ≡ (table / 2 ^ (place % 64) % 2 == 1) }
 {
-    (table >> (place % 64)) % 2 == 1
+    unit::bit(table, place) == 1
 }
 
 // By AREG and ACASCREG, or by B's.
+#[tactic(auto, using(crate::proofs::Tables::depth_table))]
 fn depth_fine(reg: u64, cascreg: u64) -> bool
     ensures { reg < 4 → cascreg < 4 → result ≡ listed reg cascreg }
 {
@@ -78,6 +80,7 @@ fn depth_fine(reg: u64, cascreg: u64) -> bool
 }
 
 // Bit 0 goes with an AREG above 0, bit 4 with such a BREG, bits 3 and 2 with AMULTSEL 1.
+#[tactic(auto, using(crate::proofs::Tables::inmode_bounds))]
 fn inmode_fine(a: Attributes, k: Controls) -> bool
     ensures { k.inmode < 32 → a.amultsel < 2 → a.areg < 4 → a.breg < 4 → result ≡ not (bad_inmode a k) }
 {
@@ -93,6 +96,7 @@ fn opmode_fine(a: Attributes, opmode: u64) -> bool
 }
 
 // A logic mode goes with W 0 and Y 0 or 2. X 1 needs no test: past number 7 it comes with Y 1.
+#[tactic(auto, using(crate::proofs::Tables::alumode_mask))]
 fn alumode_fine(a: Attributes, alumode: u64, opmode: u64) -> bool
     ensures { alumode < 16 → opmode < 512 → a.use_mult < 2 → a.preg < 2 → bad_opmode a (selects_of opmode) ≡ false → result ≡ not (bad_alumode alumode (selects_of opmode)) }
 {
@@ -100,13 +104,15 @@ fn alumode_fine(a: Attributes, alumode: u64, opmode: u64) -> bool
 }
 
 // By CARRYINSEL and PREG.
+#[tactic(auto, unfolding(crate::specs::Legal::bad_carryinsel), using(crate::proofs::Tables::carry_table))]
 fn carryinsel_fine(a: Attributes, k: Controls) -> bool
     ensures { k.carryinsel < 8 → a.preg < 2 → result ≡ not (bad_carryinsel a k) }
 {
     marked(CARRYINSELS, k.carryinsel | a.preg << 3)
 }
 
-// `true` exactly where every word is within its width and no setting is at fault. The tests stand in the order that compiles best.
+// `true` exactly where every word is within its width and no setting is at fault. The tests stand in the order that compiles best, and `&`
+// leaves no branch.
 pub fn breaks_nothing(a: Attributes, r: Registers, p: Ports) -> bool
     ensures { result ≡ breaks_nothing a r p }
 {

@@ -11,16 +11,12 @@ pub fn store(to: &mut [u64], from: &[u64])
     if to.len() != from.len() {
         return;
     }
-    for i in 0..from.len() {
-        to[i] = from[i];
-    }
+    to.copy_from_slice(from);
 }
 
 // Every word becomes 0.
 pub fn zero(words: &mut [u64])
     ensures { words.new ≡ replicate (length words.old) 0 }
 {
-    for i in 0..words.len() {
-        words[i] = 0;
-    }
+    words.fill(0);
 }

@@ -7,10 +7,14 @@ use native.Mathlib.Omega.{arith}
 use lib.Dec.{eqb, leb, ltb}
 use lib.ListN.{length}
 use borrow.Author.Tests.{eqb-true, leb-true, ltb-true, not-true, not-false}
+use Rattle.std.proofs.Common.{Option, Some, MutBor}
+use Rattle.std.specs.Array.{IsWholeChunk}
+use Rattle.std.specs.Option.{MatchOption}
 use Rattle.records.specs.Records.{attribute_words, register_words, port_words, output_words}
 use Rattle.text.specs.Bytes.{most_bytes}
 use Rattle.text.proofs.Paste.{put_none}
 use Rattle.player.specs.declared.Player.{Player}
+use Rattle.listing.specs.declared.Played.{Played}
 use Rattle.listing.specs.declared.machine.Run.{Run}
 use Rattle.player.specs.Limits.{most_slices, count_bound}
 use Rattle.player.specs.Numbers.{working}
@@ -93,12 +97,27 @@ fits_true n l r e t =
       able = numbers_able n (player_of l.numbers) (right (a && b) c h);
     }
 
+-- the same of the parts
+pub fit_of : {n : ℕ} {ns at rs ps os line : List ℕ} {r : Bool} → r ≡ fits n (lending ns at rs ps os line) → r ≡ true
+    → Fit n (lending ns at rs ps os line)
+fit_of {n} {ns} {at} {rs} {ps} {os} {line} {r} e t = fits_true n (lending ns at rs ps os line) r e (ap not t)
+
 -- ---- what the call leaves
 
 module _ (piece : List ℕ) (l : Lent) (out : List ℕ) where
-  pub not_played : (r : Bool) → r ≡ fits (length piece) l → not r ≡ true → PiecePlayed piece l out (record { used = 0; made = 0; goes = false }) l out
+  pub not_played : (fit : Bool) → fit ≡ fits (length piece) l → not fit ≡ true → (r : Played)
+      → (r.used ≡ 0) × ((r.made ≡ 0) × (r.goes ≡ false)) → PiecePlayed piece l out r l out
   unfolding outcome_of lent_after goes_after
-  not_played r e t = let h = sym e ∙ not-true r t in record { used = rw h; goes = rw h; says = rw h (put_none 0 out); lent = rw h; part = omega arith; room = omega arith }
+  not_played fit f t r e =
+      let h = sym f ∙ not-true fit t in
+      record {
+        used = rw h e.0;
+        goes = rw h e.1.1;
+        says = rw (h, e.1.0) (put_none 0 out);
+        lent = rw h;
+        part = omega (arith, e.0);
+        room = omega (arith, e.1.0);
+      }
 
   pub piece_played : (fit : Bool) → fit ≡ fits (length piece) l → not fit ≡ false → (q : Player) (r : Run) (ns at rs ps os line out' : List ℕ) (goes : Bool) → q ≡ player_of l.numbers
       → Ran (playing q l.attributes l.registers l.ports l.outputs l.line) piece out r (playing r.player at rs ps os line) out'
@@ -123,3 +142,15 @@ module _ (piece : List ℕ) (l : Lent) (out : List ℕ) where
             (λ (p : Play). lending (player_words p.player) p.attributes p.registers p.ports p.outputs p.line)
             go.play);
       }
+
+-- ---- the lent slices as arrays
+
+-- what an array that is all of a slice has
+pub whole_array : (n : ℕ) (P : Type 0) {xs : List ℕ} {r : Option (MutBor (List ℕ))} {y : MutBor (List ℕ)} → r ≡ Some y
+    → MatchOption r P (λ z. IsWholeChunk xs z.now n) → y.now ≡ xs
+whole_array n P {xs} e m = (subst (λ (r : Option (MutBor (List ℕ))). MatchOption r P (λ z. IsWholeChunk xs z.now n)) e m).same
+
+pub same_play : {q : Player} {at rs ps os line at' rs' ps' os' line' piece out out' : List ℕ} {r : Run} {p : Play}
+    → at' ≡ at → rs' ≡ rs → ps' ≡ ps → os' ≡ os → line' ≡ line
+    → Ran (playing q at' rs' ps' os' line') piece out r p out' → Ran (playing q at rs ps os line) piece out r p out'
+same_play a b c d e ran = rw (← a, ← b, ← c, ← d, ← e) ran

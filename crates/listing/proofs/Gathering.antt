@@ -1,110 +1,140 @@
--- The loop that gathers the bytes of a line. Assumes nothing.
+-- The bytes of a piece that join a line. Assumes nothing.
 use mathlib.Core.Path.{◌≡◌, refl, sym, ap, ap₂, ◌∙◌}
-use mathlib.Core.Bool.{Bool, true, false, or-true}
-use mathlib.Core.List.{List}
-use Prim.Native.Nat.{ℕ, suc, ◌+◌, ◌-◌, ◌<◌, ◌≤◌}
-use native.Mathlib.Nat.{add-zero, zero-add, add_assoc}
+use mathlib.Core.Bool.{Bool, true, false, not, cond, ◌||◌}
+use mathlib.Core.List.{List, [], ◌∷◌, ◌++◌}
+use Prim.Native.Nat.{ℕ, zero, suc, ◌+◌, ◌-◌, ◌<◌, ◌≤◌, min}
+use native.Mathlib.Nat.{min-le_left, min-le_right}
 use native.Mathlib.Omega.{arith}
 use lib.Dec.{eqb, ltb}
-use lib.ListN.{length, drop, set, get_or, length-set, length-drop}
+use lib.ListN.{length, take, drop, set, get_or, length-set, length-drop}
+use lib.Seq.{length-take-le, take-length, drop-drop}
+use Rattle.std.specs.List.{position, position_or_len}
+use Rattle.std.proofs.lemmas.Bool.{eqb-true, eqb-false}
+use Rattle.std.proofs.lemmas.List.{get_or-take, get_or-drop}
+use Rattle.std.proofs.lemmas.List.Sums.{prefix_len-le-length, fails_before_first, passes_at_first}
+use Rattle.std.specs.Option.{unwrap_or}
 use borrow.Author.Tests.{eq-eqb, ne_eqb, ltb-true, ltb-false}
 use Rattle.text.specs.Bytes.{newline, most_bytes}
-use Rattle.text.proofs.Numerals.{next_byte, none_left}
+use Rattle.text.specs.Printed.{pasted}
+use Rattle.text.proofs.Paste.{put_none, put_one, put_more}
 use Rattle.player.specs.declared.Player.{Player}
 use Rattle.listing.specs.Steps.{longer}
 use Rattle.player.specs.Numbers.{working}
 use Rattle.listing.specs.Parts.{Gathered, one_more_byte, gathering, Joined, Reaches}
 
--- the lesser of two
-pub record Least (n a b : ℕ) : Type 0 where
-  pub first : n ≤ a
-  pub second : n ≤ b
-  pub one : n < a → n ≡ b
+-- n bytes of a text join a line: none of them is a newline, and the line has room
+record Joins (held : ℕ) (text : List ℕ) (n : ℕ) : Type 0 where
+  pub within : n ≤ length text
+  pub room : held + n ≤ most_bytes
+  pub others : (i : ℕ) → i < n → get_or text i 0 ≡ newline → ⊥
+  -- the byte that they end at is a newline, or one too many
+  pub ends : n < length text → (get_or text n 0 ≡ newline → ⊥) → held + n ≡ most_bytes
 
-pub least_first : (n a b : ℕ) → a < b → n ≡ a → Least n a b
-least_first n a b h e = record { first = omega arith; second = omega arith; one = λ l. let z : ⊥ = omega arith in absurd z }
+-- what joins byte after byte is what is copied at once
+gathered_text : (held n : ℕ) (text line : List ℕ) → length line ≡ most_bytes → Joins held text n
+    → gathering held line text ≡ record { count = n; line = pasted held (take n text) line }
+gathered_text held zero [] line l j = ap (λ (bs : List ℕ). record { count = 0; line = bs }) (put_none held line).bytes
+gathered_text held (suc n) [] line l j = let none : suc n ≤ 0 = j.within in let z : ⊥ = omega arith in absurd z
+gathered_text held zero (b ∷ bs) line l j = go (eqb b newline) refl ∙ ap (λ (xs : List ℕ). record { count = 0; line = xs }) (put_none held line).bytes
+  where
+    go : (t : Bool) → eqb b newline ≡ t
+        → cond (t || eqb held most_bytes) (record { count = 0; line = line }) (one_more_byte (gathering (held + 1) (set line held b) bs))
+        ≡ record { count = 0; line = line }
+    go true h = refl
+    go false h = rw (eq-eqb held most_bytes (omega (arith, j.ends (omega arith) (eqb-false b newline h))))
+gathered_text held (suc n) (b ∷ bs) line l j =
+    let other : eqb b newline ≡ false = ne_eqb b newline (j.others 0 (omega arith)) in
+    let free : held < most_bytes = omega (arith, j.room) in
+    let room : eqb held most_bytes ≡ false = ne_eqb held most_bytes (λ e. omega (arith, free, e)) in
+    let more : Joins (held + 1) bs n = record {
+      within = omega (arith, j.within);
+      room = omega (arith, j.room);
+      others = λ i h. j.others (suc i) (omega arith);
+      ends = λ h k. omega (arith, j.ends (omega arith) k);
+    } in
+    let bytes =
+    (put_more (put_one held b line (omega (arith, l, free))) (record { ends = refl; bytes = refl }) (omega (arith, l, free))).bytes in
+    rw (other, room)
+    (ap one_more_byte (gathered_text (held + 1) n bs (set line held b) (rw length-set l) more)
+    ∙ ap (λ (xs : List ℕ). record { count = suc n; line = xs }) bytes)
 
-pub least_second : (n a b : ℕ) → b ≤ a → n ≡ b → Least n a b
-least_second n a b h e = record { first = omega arith; second = omega arith; one = λ l. e }
+abbrev pub ends_line : (b : ℕ) → Bool
+ends_line b = eqb b newline
 
--- n bytes, and then others
-abbrev after : (n : ℕ) → Gathered → Gathered
-after n g = record { count = n + g.count; line = g.line }
+-- those before a newline, as far as the line has room
+joins : (held most n : ℕ) (text : List ℕ) → held ≤ most_bytes → most ≡ min (length text) (most_bytes - held)
+    → n ≡ unwrap_or (position ends_line (take most text)) most → Joins held text n
+joins held most n text short m f =
+    record {
+      within = omega (arith, first, bound, few);
+      room = omega (arith, first, bound, m, min-le_right (length text) (most_bytes - held));
+      others = λ i h. eqb-false (get_or text i 0) newline (byte i (omega (arith, first, bound, h)) (fails_before_first ends_line part i 0 (omega (arith, first, h))));
+      ends = λ h k. ending h k (ltb n most) refl;
+    }
+  where
+    part : List ℕ
+    part = take most text
 
--- so far: n bytes of the piece from a place on have joined the line
-pub record JoinedSoFar (piece : List ℕ) (from held : ℕ) (line₀ : List ℕ) (most n : ℕ) (line : List ℕ) : Type 0 where
-  pub least : Least most (length piece - from) (most_bytes - held)
-  pub few : n ≤ most
-  pub long : length line ≡ most_bytes
-  pub whole : after n (gathering (held + n) line (drop (from + n) piece)) ≡ gathering held line₀ (drop from piece)
+    few : most ≤ length text
+    few = omega (arith, m, min-le_left (length text) (most_bytes - held))
 
-module _ (piece : List ℕ) (from held : ℕ) (line₀ : List ℕ) (most : ℕ) (start : from ≤ length piece) (short : held ≤ most_bytes) where
-  pub none_joined : length line₀ ≡ most_bytes → Least most (length piece - from) (most_bytes - held) → JoinedSoFar piece from held line₀ most 0 line₀
-  none_joined long least = record {
-    least = least;
-    few = omega arith;
-    long = long;
-    whole = rw (add-zero held, add-zero from) (none (gathering held line₀ (drop from piece)));
-  }
-    where
-      none : (g : Gathered) → after 0 g ≡ g
-      none g = ap (λ (n : ℕ). record { count = n; line = g.line }) (zero-add g.count)
+    long : length part ≡ most
+    long = length-take-le most text few
 
-  module _ (n : ℕ) (line : List ℕ) (s : JoinedSoFar piece from held line₀ most n line) where
-    -- one byte more
-    pub one_joined : n < most → (get_or piece (from + n) 0 ≡ newline → ⊥)
-        → JoinedSoFar piece from held line₀ most (n + 1) (set line (held + n) (get_or piece (from + n) 0))
-    one_joined h other =
-        let b = get_or piece (from + n) 0 in
-        let rest = gathering (held + n + 1) (set line (held + n) b) (drop (from + n + 1) piece) in
-        let k : n + 1 + rest.count ≡ n + suc rest.count = omega arith in
-        let full : held + n ≡ most_bytes → ⊥ = λ e. omega (arith, s.least.second) in
-        let one : gathering (held + n) line (drop (from + n) piece) ≡ one_more_byte rest =
-        rw (next_byte piece (from + n) (omega (arith, s.least.first)), ne_eqb b newline other, ne_eqb (held + n) most_bytes full) in
-        record {
-          least = s.least;
-          few = omega arith;
-          long = rw length-set s.long;
-          whole =
-              ap₂ (λ (i j : ℕ). after (n + 1) (gathering i (set line (held + n) b) (drop j piece))) (sym (add_assoc held n 1)) (sym (add_assoc from n 1))
-              ∙ ap (λ (m : ℕ). record { count = m; line = rest.line }) k
-              ∙ ap (after n) (sym one)
-              ∙ s.whole;
-        }
+    bound : position_or_len ends_line part ≤ most
+    bound = omega (arith, prefix_len-le-length (λ b. not (ends_line b)) part, long)
 
-    -- where no byte joins any more, these are all
-    all_joined : gathering (held + n) line (drop (from + n) piece) ≡ record { count = 0; line = line }
-        → (from + n < length piece → (get_or piece (from + n) 0 ≡ newline → ⊥) → held + n ≡ most_bytes) → Joined piece from held line₀ n line
-    all_joined e ends =
-        let g = sym s.whole ∙ ap (after n) e in
-        record {
-          count = sym (ap (λ (x : Gathered). x.count) g ∙ add-zero n);
-          bytes = sym (ap (λ (x : Gathered). x.line) g);
-          within = omega (arith, s.least.first, s.few);
-          room = omega (arith, s.least.second, s.few);
-          ends = ends;
-        }
-
-    -- the bytes end at a newline
-    pub at_newline : n < most → get_or piece (from + n) 0 ≡ newline → Joined piece from held line₀ n line
-    at_newline h e =
-        all_joined (rw (next_byte piece (from + n) (omega (arith, s.least.first)), eq-eqb (get_or piece (from + n) 0) newline e))
-        (λ more other. absurd (other e))
-
-    -- or the piece ends, or the line is full
-    pub at_end : most ≤ n → Joined piece from held line₀ n line
-    at_end h = all_joined (go (ltb (from + n) (length piece)) refl) (λ more other. full more)
+    first : n ≡ position_or_len ends_line part
+    first = go (ltb (position_or_len ends_line part) (length part)) refl
       where
-        full : from + n < length piece → held + n ≡ most_bytes
-        full more =
-            let e : most ≡ most_bytes - held = s.least.one (omega (arith, s.few)) in
-            omega (arith, s.few)
+        go : (t : Bool) → ltb (position_or_len ends_line part) (length part) ≡ t → n ≡ position_or_len ends_line part
+        go true h = rw h at f
+        go false h =
+            let all : n ≡ most = rw h at f in
+            let whole = ltb-false (position_or_len ends_line part) (length part) h in
+            omega (arith, all, whole, long, bound)
 
-        go : (t : Bool) → ltb (from + n) (length piece) ≡ t → gathering (held + n) line (drop (from + n) piece) ≡ record { count = 0; line = line }
-        go true e =
-            let more = ltb-true (from + n) (length piece) e in
-            rw (next_byte piece (from + n) more, eq-eqb (held + n) most_bytes (full more), or-true (eqb (get_or piece (from + n) 0) newline))
-        go false e = rw (none_left piece (from + n) (omega (arith, ltb-false (from + n) (length piece) e, s.least.first, s.few)))
+    byte : (i : ℕ) → i < most → {t : Bool} → ends_line (get_or part i 0) ≡ t → ends_line (get_or text i 0) ≡ t
+    byte i h e = ap ends_line (sym (get_or-take most text i 0 h)) ∙ e
+
+    at_first : n < most → ends_line (get_or text n 0) ≡ true
+    at_first h =
+        byte n h (ap (λ (k : ℕ). ends_line (get_or part k 0)) first ∙ passes_at_first ends_line part 0 (omega (arith, first, h, long)))
+
+    ending : n < length text → (get_or text n 0 ≡ newline → ⊥) → (t : Bool) → ltb n most ≡ t → held + n ≡ most_bytes
+    ending h k true e = absurd (k (eqb-true (get_or text n 0) newline (at_first (ltb-true n most e))))
+    ending h k false e = let all : most ≤ n = ltb-false n most e in omega (arith, m, short, first, bound)
+
+-- what is lent of the piece
+abbrev pub rest_of : (piece : List ℕ) (from : ℕ) → List ℕ
+rest_of piece from = take (length piece - from) (drop from piece)
+
+rest_is : (piece : List ℕ) (from : ℕ) → rest_of piece from ≡ drop from piece
+rest_is piece from = ap (λ (k : ℕ). take k (drop from piece)) (sym (length-drop from piece)) ∙ take-length (drop from piece)
+
+pub joined_at_once : (piece : List ℕ) (from held : ℕ) (line : List ℕ) → from ≤ length piece → held ≤ most_bytes → length line ≡ most_bytes
+    → (most : ℕ) → most ≡ min (length (rest_of piece from)) (most_bytes - held)
+    → (n : ℕ) → n ≡ unwrap_or (position ends_line (take most (rest_of piece from))) most → (got : List ℕ) → got ≡ take n (rest_of piece from)
+    → Joined piece from held line n (take held line ++ (got ++ drop (held + n - held) (drop held line)))
+joined_at_once piece from held line start short l most m n f got g =
+    let text = drop from piece in
+    let long : length text ≡ length piece - from = length-drop from piece in
+    let e : rest_of piece from ≡ text = rest_is piece from in
+    let j : Joins held text n =
+    joins held most n text short (m ∙ ap (λ (bs : List ℕ). min (length bs) (most_bytes - held)) e)
+    (f ∙ ap (λ (bs : List ℕ). unwrap_or (position ends_line (take most bs)) most) e) in
+    let all = gathered_text held n text line l j in
+    let gone : held + n - held ≡ length (take n text) = omega (arith, length-take-le n text j.within) in
+    let bytes : take held line ++ (got ++ drop (held + n - held) (drop held line)) ≡ pasted held (take n text) line =
+    ap₂ (λ (xs ys : List ℕ). take held line ++ (xs ++ ys)) (g ∙ ap (take n) e)
+    (drop-drop (held + n - held) held line ∙ ap (λ (k : ℕ). drop (held + k) line) gone) in
+    record {
+      count = sym (ap (λ (x : Gathered). x.count) all);
+      bytes = bytes ∙ sym (ap (λ (x : Gathered). x.line) all);
+      within = omega (arith, j.within, long, start);
+      room = j.room;
+      ends = λ more other. j.ends (omega (arith, more, long)) (λ z. other (sym (get_or-drop from piece n 0) ∙ z));
+    }
 
 -- ---- what a stretch of bytes reaches
 

@@ -59,6 +59,9 @@ pub record ReadIn (x : Numbers) (n k : ℕ) (ws : List ℕ) (r : Bool) (got : Li
   pub words : put_at n k ws got ≡ pasted (n * k) (words_of n x) ws
   pub long : length (put_at n k ws got) ≡ length ws
 
+pub read_well : {x : Numbers} {n k : ℕ} {ws : List ℕ} {r s : Bool} {got : List ℕ} → ReadIn x n k ws r got → r ≡ s → ReadIn x n k ws s got
+read_well t e = record { well = t.well ∙ e; words = t.words; long = t.long }
+
 module _ (n k : ℕ) (ws : List ℕ) (h : k < most_slices) (l : length ws ≡ n * most_slices) where
   -- what is lent of them
   abbrev lent : List ℕ
@@ -84,10 +87,16 @@ module _ (n k : ℕ) (ws : List ℕ) (h : k < most_slices) (l : length ws ≡ n 
       read_in (line_of letter n line) (words_length letter n line) (t.well ∙ ap (λ (m : ℕ). is_well (line_of letter m line)) lent_length)
       (t.words ∙ ap (λ (m : ℕ). words_of m (line_of letter m line)) lent_length)
 
--- an `A` line whose numbers were read into the stretch of slice k
-pub settings_in : (k : ℕ) (ws : List ℕ) → k < most_slices → length ws ≡ attribute_words * most_slices → (line : List ℕ) {r : Bool} {got : List ℕ}
+-- a `P` line whose numbers were read into the stretch of slice k
+pub ports_in : {k : ℕ} {ws line got : List ℕ} {r : Bool} → k < most_slices → length ws ≡ port_words * most_slices
+    → Taken letter_p line (take (port_words * k + port_words - port_words * k) (drop (port_words * k) ws)) r got
+    → ReadIn (line_of letter_p port_words line) port_words k ws r got
+ports_in {k} {ws} {line} h l t = line_in port_words k ws h l letter_p line t
+
+-- and an `A` line
+pub settings_in : {k : ℕ} {ws line got : List ℕ} {r : Bool} → k < most_slices → length ws ≡ attribute_words * most_slices
     → SettingsRead line r got → ReadIn (settings_line line) attribute_words k ws r got
-settings_in k ws h l line t = read_in attribute_words k ws h l (settings_line line) (settings_length line) t.well t.words
+settings_in {k} {ws} {line} h l t = read_in attribute_words k ws h l (settings_line line) (settings_length line) t.well t.words
 
 -- ---- what the lines leave, as one
 

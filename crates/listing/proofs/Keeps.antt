@@ -7,8 +7,7 @@ use native.Mathlib.Omega.{arith}
 use lib.Dec.{leb, eqb}
 use lib.ListN.{get_or}
 use borrow.Author.Tests.{leb-true, leb-false, eqb-false}
-use Rattle.column.specs.declared.Answer.{Answer}
-use Rattle.column.specs.Refusals.{number_of, place_of, count_fits}
+use Rattle.column.specs.Refusals.{Answer, number_of, place_of, count_fits}
 use Rattle.text.specs.Bytes.{newline, most_bytes}
 use Rattle.text.specs.Numbers.{Numbers, is_well, words_of, line_of}
 use Rattle.word.proofs.Laws.{both_true}

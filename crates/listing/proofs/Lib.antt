@@ -1,4 +1,6 @@
 pub mod Printing
+pub mod Head
+pub mod Faults
 pub mod SettingsLine
 pub mod Stops
 pub mod Groups

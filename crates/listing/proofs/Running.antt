@@ -1,5 +1,5 @@
 -- A turn of the loop that plays a piece. Assumes nothing.
-use mathlib.Core.Path.{◌≡◌, refl, sym, ap, ◌∙◌, subst}
+use mathlib.Core.Path.{◌≡◌, refl, sym, ap, subst}
 use mathlib.Core.Bool.{Bool, true, false, cond}
 use mathlib.Core.List.{List}
 use Prim.Native.Nat.{ℕ, ◌+◌, ◌-◌, ◌<◌, ◌≤◌}
@@ -15,23 +15,10 @@ use Rattle.listing.specs.Limits.{clock_room}
 use Rattle.player.specs.Numbers.{working}
 use Rattle.listing.specs.Listing.{Play, Turn, leaving, turn_of, turn_bytes, byte_turn}
 use Rattle.listing.specs.Calls.{Outcome, played}
-use Rattle.listing.specs.Parts.{Able, Frames, playing, gathering, joining, stretch_of, Reaches, Ran}
+use Rattle.listing.specs.Parts.{Able, playing, gathering, joining, stretch_of, Reaches, Ran}
 use Rattle.listing.proofs.Printing.{event_length}
 use Rattle.listing.proofs.Keeps.{byte_goes}
 use Rattle.listing.proofs.Pieces.{SoFar, one_byte, one_stretch, all_taken, no_room, printed_so_far}
-
-pub frames_kept : (at rs ps os line at' rs' ps' os' line' : List ℕ) → Frames at rs ps os line → length at' ≡ length at → length rs' ≡ length rs
-    → length ps' ≡ length ps → length os' ≡ length os → length line' ≡ length line → Frames at' rs' ps' os' line'
-frames_kept at rs ps os line at' rs' ps' os' line' f a b c d e =
-    record {
-      words = record {
-        attributes = a ∙ f.words.attributes;
-        registers = b ∙ f.words.registers;
-        ports = c ∙ f.words.ports;
-        outputs = d ∙ f.words.outputs;
-      };
-      line = e ∙ f.line;
-    }
 
 -- there is room for one line and one clock more
 pub able_one : (q : Player) (n used : ℕ) → Able q (n - used) → used < n → Able q 1

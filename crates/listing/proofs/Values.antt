@@ -11,9 +11,8 @@ use Rattle.event.specs.declared.Event.TheVariants.{Clocked}
 use Rattle.event.specs.Letters.{letter_o, letter_m, letter_r, letter_e}
 use Rattle.event.specs.Events.{bytes_within}
 use Rattle.event.specs.Showing.{detects, shown}
-use Rattle.column.specs.declared.Answer.TheVariants.{Accepted}
 use Rattle.column.specs.Column.{column_next, column_shown, shown_at, next_at, cascade_into}
-use Rattle.column.specs.Refusals.{attributes_answer, clock_answer, rules, settings, lengths_fit as lengths_of_clock, fails, broken}
+use Rattle.column.specs.Refusals.{accepted, attributes_answer, clock_answer, rules, settings, lengths_fit as lengths_of_clock, fails, broken}
 use Rattle.legal.specs.Legal.{off_list, bad_inmode, bad_opmode, bad_alumode, bad_carryinsel, breaks}
 use Rattle.slice.specs.Slice.{controls_of, selects_of, slice_next, next_of, edge, slice_outputs, slice_cascade, outputs_of_settled, cascade_of, slice_settled, settled_of, settled_carry, result_of, slice_operands, operands_of, product_of, left_of, right_of, pre_added_of, a_side, d_side, paths_of}
 use Rattle.unit.specs.Unit.{unit_result, split_result, carry_out, arithmetic, lanes, logic_rows, wrapped_sum, pre_adder, product, load}
@@ -134,7 +133,7 @@ player count given clocks lines held =
     record { phase = Clocks; count = count; given = given; clocks = clocks; lines = lines; held = held; shows = Outputs }
 
 -- an accepted clock is shown by its number, and counts
-clock_counts : clock_step (player 2 1 7 9 0) Accepted [] ≡ record { player = player 2 0 8 9 0; event = Clocked 7 }
+clock_counts : clock_step (player 2 1 7 9 0) accepted [] ≡ record { player = player 2 0 8 9 0; event = Clocked 7 }
 unfolding answered shown_step shown
 clock_counts = refl
 

@@ -9,8 +9,7 @@ use lib.Dec.{eqb}
 use lib.ListN.{length, take, set, length-set}
 use borrow.Author.Tests.{eqb-false}
 use Rattle.records.specs.Records.{attribute_words, port_words}
-use Rattle.column.specs.declared.Answer.{Answer}
-use Rattle.column.specs.Refusals.{number_of, place_of}
+use Rattle.column.specs.Refusals.{Answer, number_of, place_of}
 use Rattle.text.specs.Bytes.{newline, most_bytes}
 use Rattle.text.specs.Numbers.{line_of, is_well}
 use Rattle.text.proofs.Lines.{take_set}

@@ -5,3 +5,4 @@ pub mod Listing
 pub mod Calls
 pub mod Matching
 pub mod Parts
+pub mod Faults

@@ -2,9 +2,8 @@
 use Rattle.std.specs.Prelude.{ℕ, ◌+◌, ◌*◌, ◌-◌, cond, ◌&&◌, List, [], ◌∷◌, ◌++◌, eqb, take, set, replicate}
 use Rattle.lent.specs.Refusing.{leaves}
 use Rattle.records.specs.Records.{attribute_words, register_words, port_words, output_words}
-use Rattle.column.specs.declared.Answer.{Answer}
 use Rattle.column.specs.Column.{column_next, column_shown}
-use Rattle.column.specs.Refusals.{number_of, attributes_answer, clock_answer}
+use Rattle.column.specs.Refusals.{Answer, number_of, attributes_answer, clock_answer}
 use Rattle.text.specs.Bytes.{newline, most_bytes}
 use Rattle.text.specs.Numbers.{Numbers, values, malformed, line_of, is_well, words_of}
 use Rattle.text.specs.Printed.{pasted}

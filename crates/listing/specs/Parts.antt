@@ -1,8 +1,8 @@
 -- What the parts of the code promise one another; no caller needs it. Assumes nothing.
-use Rattle.std.specs.Prelude.{ℕ, suc, ◌+◌, ◌*◌, ◌≤◌, ◌<◌, ◌≡◌, Bool, true, cond, ◌&&◌, ◌||◌, List, [], ◌∷◌, eqb, length, drop, set, get_or}
+use Rattle.std.specs.Prelude.{ℕ, suc, ◌+◌, ◌*◌, ◌≤◌, ◌<◌, ◌≡◌, Bool, true, cond, ◌&&◌, ◌||◌, List, [], ◌∷◌, eqb, length, drop, set, get_or, Option, Some, None}
 use Rattle.records.specs.Records.{attribute_words, register_words, port_words, output_words}
 use Rattle.text.specs.Bytes.{newline, most_bytes}
-use Rattle.text.specs.Numbers.{line_of, is_well, words_of}
+use Rattle.text.specs.Numbers.{Numbers, values, malformed, line_of, is_well, words_of}
 use Rattle.text.specs.Printed.{Put}
 use Rattle.player.specs.declared.Player.{Player}
 use Rattle.listing.specs.declared.steps.Step.{Step}
@@ -14,6 +14,11 @@ use Rattle.listing.specs.Steps.{longer, last_of_group, group_step, settings_step
 use Rattle.player.specs.Numbers.{working}
 use Rattle.listing.specs.Listing.{Play, placed, settings_line, settings_of, clock_of, clocked_registers, clocked_outputs}
 use Rattle.listing.specs.Calls.{played}
+
+-- the numbers that a line has
+abbrev pub read_as : Numbers → Option (List ℕ)
+read_as (values ws) = Some ws
+read_as malformed = None
 
 -- a player's numbers are in range
 pub record Fair (q : Player) : Type 0 where

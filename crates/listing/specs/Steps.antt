@@ -1,8 +1,7 @@
 -- What one line of a listing does (01, "Port listings"): the player's numbers after it, and what there is to print. Each player here
 -- has counted the line already, so its line is q.lines. Assumes nothing.
 use Rattle.std.specs.Prelude.{ℕ, ◌+◌, Bool, true, cond, ◌&&◌, List, eqb, leb, ltb, get_or}
-use Rattle.column.specs.declared.Answer.{Answer}
-use Rattle.column.specs.Refusals.{number_of, place_of, count_fits}
+use Rattle.column.specs.Refusals.{Answer, number_of, place_of, count_fits}
 use Rattle.text.specs.Numbers.{Numbers, is_well, words_of}
 use Rattle.event.specs.declared.Event.{Event}
 use Rattle.event.specs.declared.Event.TheVariants.{Nothing, Clocked, Matched, Refused, Ended}

@@ -9,8 +9,11 @@ mod lines;
 mod machine;
 mod steps;
 
-// What a piece led to: the bytes of it that were taken, the bytes that were printed, and whether there is more to play.
-#[derive(Clone, Copy)]
+use machine::Run;
+
+// What a piece led to: the bytes of it that were taken, the bytes that were printed, and whether there is more to play. `goes` is no
+// `Option`'s: both counts are told either way.
+#[derive(Clone, Copy, Default)]
 pub struct Played {
     pub used: usize,
     pub made: usize,
@@ -18,23 +21,13 @@ pub struct Played {
 }
 
 // How many words and bytes a player is lent: its numbers, the words of 24 slices, and the bytes of a line.
-pub const NUMBERS: usize = player::NUMBERS;
-
-pub const ATTRIBUTES: usize = player::ATTRIBUTES;
-
-pub const REGISTERS: usize = player::REGISTERS;
-
-pub const PORTS: usize = player::PORTS;
-
-pub const OUTPUTS: usize = player::OUTPUTS;
-
-pub const LINE: usize = player::LINE;
+pub use player::{ATTRIBUTES, LINE, NUMBERS, OUTPUTS, PORTS, REGISTERS};
 
 // Room in `out` for what any byte prints: more than the `O` lines of 24 slices, also where a slice had as many as 13 outputs.
 const CLOCK_ROOM: usize = 8192;
 
 // Plays a piece, byte after byte, as long as `out` has room for the lines of a clock, and prints from the front of `out` on. Does nothing
-// where what is lent is no player's.
+// where what is lent is no player's. The lent parts stay parameters: `play_once` and the theorems are of this call.
 pub fn play(
     piece: &[u8],
     numbers: &mut [u64],
@@ -56,27 +49,29 @@ pub fn play(
         outputs.len(),
         line.len(),
     ) {
-        return Played {
-            used: 0,
-            made: 0,
-            goes: false,
-        };
+        return Played::default();
     }
     let begin = player::read(&numbers[..]);
-    let run = machine::run_piece(
-        begin, piece, attributes, registers, ports, outputs, line, out,
+    let Run { player, used, made } = machine::run_piece(
+        begin,
+        piece,
+        attributes.as_mut_array().unwrap(),
+        registers.as_mut_array().unwrap(),
+        ports.as_mut_array().unwrap(),
+        outputs.as_mut_array().unwrap(),
+        line.as_mut_array().unwrap(),
+        out,
     );
-    let after = run.player;
-    player::store(after, numbers);
-    let phase = after.phase;
+    player::store(player, numbers);
     Played {
-        used: run.used,
-        made: run.made,
-        goes: player::is_working(phase),
+        used,
+        made,
+        goes: player::is_working(player.phase),
     }
 }
 
 // The end of the input: prints `E` or what is missing from the front of `out` on, and answers how many bytes that is.
+#[tactic(auto, using(crate::proofs::Ending::no_player, crate::proofs::Ending::no_line))]
 pub fn finish(numbers: &[u64], out: &mut [u8]) -> usize
     ensures { Finished numbers.now out.old result out.new }
 {
@@ -87,6 +82,5 @@ pub fn finish(numbers: &[u64], out: &mut [u8]) -> usize
     if last.lines == u64::MAX {
         return 0;
     }
-    let no_outputs = [0u64; 0];
-    event::put(steps::end_of(last), 0, &no_outputs, out, 0)
+    event::put(steps::end_of(last), 0, &[], out, 0)
 }

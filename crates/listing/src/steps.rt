@@ -1,11 +1,55 @@
 // What a line or a byte makes of a player's numbers, and what there is to print.
 ghost use Rattle.std.specs.Prelude.{◌≡◌, ◌+◌, ◌<◌, ◌≤◌};
 ghost use Rattle.text.specs.Bytes.{most_bytes};
+ghost use Rattle.event.specs.declared.Event.TheVariants.{Refused};
 ghost use Rattle.player.specs.Limits.{most_slices, count_bound};
-ghost use Rattle.listing.specs.Steps.{counted, longer, one_more, named, clocking, clock_run, halted, refusal, shown_step, end_in, end_of};
+ghost use Rattle.listing.specs.Steps.{counted, longer, one_more, named, clocking, clock_run, halted, refusal, shown_step, end_of};
+ghost use Rattle.listing.specs.declared.steps.Fault.TheVariants.{Column};
+ghost use Rattle.listing.specs.Faults.{fault_number, fault_place, outcome};
 
+use column::Refusal;
 use event::Event;
 use player::{Phase, Player, Shows};
+
+// What a listing is refused for: its count, a malformed line, the slice that it looks at, or what the column refuses.
+#[derive(Clone, Copy)]
+pub enum Fault {
+    Count,
+    Line(u64),
+    Slice,
+    Column(Refusal),
+}
+
+impl From<Refusal> for Fault {
+    ghost from_gives = { λ refusal fault. fault ≡ Column refusal };
+
+    fn from(refusal: Refusal) -> Fault {
+        Fault::Column(refusal)
+    }
+}
+
+impl Fault {
+    fn number(self) -> u64
+        ensures { result ≡ fault_number self }
+    {
+        match self {
+            Fault::Count => 1,
+            Fault::Line(_) => 12,
+            Fault::Slice => 13,
+            Fault::Column(refusal) => column::number::<()>(Err(refusal)),
+        }
+    }
+
+    fn place(self) -> u64
+        ensures { result ≡ fault_place self }
+    {
+        match self {
+            Fault::Line(line) => line,
+            Fault::Column(refusal) => column::place::<()>(Err(refusal)) as u64,
+            Fault::Count | Fault::Slice => 0,
+        }
+    }
+}
 
 // What a line leaves: the player, and what there is to print.
 #[derive(Clone, Copy)]
@@ -19,16 +63,10 @@ pub fn after_line(q: Player) -> Player
     requires { q.lines < count_bound }
     ensures { result ≡ counted q }
 {
-    let phase = q.phase;
-    let shows = q.shows;
     Player {
-        phase,
-        count: q.count,
-        given: q.given,
-        clocks: q.clocks,
         lines: q.lines + 1,
         held: 0,
-        shows,
+        ..q
     }
 }
 
@@ -37,16 +75,9 @@ pub fn longer(q: Player, more: usize) -> Player
     requires { q.held + more ≤ most_bytes }
     ensures { result ≡ longer more q }
 {
-    let phase = q.phase;
-    let shows = q.shows;
     Player {
-        phase,
-        count: q.count,
-        given: q.given,
-        clocks: q.clocks,
-        lines: q.lines,
         held: q.held + more,
-        shows,
+        ..q
     }
 }
 
@@ -55,16 +86,9 @@ pub fn after_slice(q: Player) -> Player
     requires { q.given < most_slices }
     ensures { result ≡ one_more q }
 {
-    let phase = q.phase;
-    let shows = q.shows;
     Player {
-        phase,
-        count: q.count,
         given: q.given + 1,
-        clocks: q.clocks,
-        lines: q.lines,
-        held: q.held,
-        shows,
+        ..q
     }
 }
 
@@ -76,10 +100,8 @@ pub fn named(q: Player, count: usize, shows: Shows) -> Player
         phase: Phase::Settings,
         count,
         given: 0,
-        clocks: q.clocks,
-        lines: q.lines,
-        held: q.held,
         shows,
+        ..q
     }
 }
 
@@ -87,15 +109,10 @@ pub fn named(q: Player, count: usize, shows: Shows) -> Player
 pub fn clocking(q: Player) -> Player
     ensures { result ≡ clocking q }
 {
-    let shows = q.shows;
     Player {
         phase: Phase::Clocks,
-        count: q.count,
         given: 0,
-        clocks: q.clocks,
-        lines: q.lines,
-        held: q.held,
-        shows,
+        ..q
     }
 }
 
@@ -104,16 +121,10 @@ pub fn after_clock(q: Player) -> Player
     requires { q.clocks < count_bound }
     ensures { result ≡ clock_run q }
 {
-    let phase = q.phase;
-    let shows = q.shows;
     Player {
-        phase,
-        count: q.count,
         given: 0,
         clocks: q.clocks + 1,
-        lines: q.lines,
-        held: q.held,
-        shows,
+        ..q
     }
 }
 
@@ -121,62 +132,54 @@ pub fn after_clock(q: Player) -> Player
 fn halted(q: Player) -> Player
     ensures { result ≡ halted q }
 {
-    let shows = q.shows;
     Player {
         phase: Phase::Stopped,
-        count: q.count,
         given: 0,
-        clocks: q.clocks,
-        lines: q.lines,
         held: 0,
-        shows,
+        ..q
     }
 }
 
+fn refusal(q: Player, fault: Fault) -> Event
+    ensures { result ≡ Refused (fault_number fault) q.clocks (fault_place fault) }
+{
+    Event::Refused(fault.number(), q.clocks, fault.place())
+}
+
 // The listing is refused.
-pub fn refused(q: Player, number: u64, place: u64) -> Step
-    ensures { result ≡ refusal q number place }
+pub fn refused(q: Player, fault: Fault) -> Step
+    ensures { result ≡ refusal q (fault_number fault) (fault_place fault) }
 {
     Step {
         player: halted(q),
-        event: Event::Refused(number, q.clocks, place),
+        event: refusal(q, fault),
+    }
+}
+
+// The step that a line was taken as, or the refusal.
+pub fn outcome(q: Player, taken: Result<Step, Fault>) -> Step
+    ensures { result ≡ outcome q taken }
+{
+    match taken {
+        Ok(step) => step,
+        Err(fault) => refused(q, fault),
     }
 }
 
 // What the player shows of a step that led to these outputs. After its match no line is due.
+#[tactic(auto, unfolding(crate::specs::Steps::shown_step))]
 pub fn shown(step: Step, outputs: &[u64]) -> Step
     ensures { result ≡ shown_step step outputs.now }
 {
-    let player = step.player;
-    let shows = player.shows;
-    let happened = step.event;
-    let event = event::shown(shows, happened, outputs);
-    let Event::Matched(_) = event else {
-        return Step { player, event };
-    };
-    Step {
-        player: halted(player),
-        event,
-    }
-}
-
-// What there is to print where the input ends while a line of this kind is due.
-fn end_in(phase: Phase, player: Player) -> Event
-    requires { player.lines < count_bound }
-    ensures { result ≡ end_in phase player }
-{
-    let missing = Event::Refused(12, player.clocks, player.lines + 1);
-    match phase {
-        Phase::Head => missing,
-        Phase::Settings => missing,
-        Phase::Clocks => {
-            if (player.held == 0) & (player.given == 0) {
-                Event::Ended(player.clocks)
-            } else {
-                missing
-            }
+    let event = event::shown(step.player.shows, step.event, outputs);
+    match event {
+        Event::Matched(_) => Step {
+            player: halted(step.player),
+            event,
+        },
+        Event::Nothing | Event::Clocked(_) | Event::Refused(..) | Event::Ended(_) => {
+            Step { event, ..step }
         }
-        Phase::Stopped => Event::Nothing,
     }
 }
 
@@ -186,6 +189,16 @@ pub fn end_of(player: Player) -> Event
     requires { player.lines < count_bound }
     ensures { result ≡ end_of player }
 {
-    let phase = player.phase;
-    end_in(phase, player)
+    let missing = refusal(player, Fault::Line(player.lines + 1));
+    match player.phase {
+        Phase::Head | Phase::Settings => missing,
+        Phase::Clocks => {
+            if (player.held == 0) & (player.given == 0) {
+                Event::Ended(player.clocks)
+            } else {
+                missing
+            }
+        }
+        Phase::Stopped => Event::Nothing,
+    }
 }

@@ -13,9 +13,8 @@ use Rattle.records.specs.Records.{attribute_words, register_words, port_words, o
 use Rattle.slice.specs.Slice.{controls_of, selects_of}
 use Rattle.legal.specs.Legal.{off_list, bad_inmode, bad_opmode, bad_alumode, bad_carryinsel, breaks}
 use Rattle.column.specs.declared.Check.{Check}
-use Rattle.column.specs.declared.Answer.TheVariants.{Accepted}
 use Rattle.column.specs.Column.{stretch, column_next, after}
-use Rattle.column.specs.Refusals.{broken, fails, settings, lengths_fit, clock_answer}
+use Rattle.column.specs.Refusals.{accepted as passed, broken, fails, settings, lengths_fit, clock_answer}
 use Rattle.column.proofs.Search.{none_lowest}
 use Rattle.column.proofs.Answers.{each_check, none_fails}
 use Rattle.records.proofs.Fits.{Fit, none, more, fit_within}
@@ -44,7 +43,7 @@ module _ (g : Batch) where
       (each_check _ refl within (fit_within (ports_fit (fed g g.a t k) (fed g g.d t k) (fed g g.b t k))) refl refl refl refl)
 
   settings_pass : (rs : List ℕ) (t : ℕ) → ((k : ℕ) → k < g.terms → exceeds register_widths (stretch register_words k rs) ≡ false)
-      → settings g.terms (run_attributes g.terms) rs (run_ports g t) ≡ Accepted
+      → settings g.terms (run_attributes g.terms) rs (run_ports g t) ≡ passed
   settings_pass rs t within =
       none_fails g.terms (run_attributes g.terms) rs (run_ports g t)
       (λ check. none_lowest (fails check _ _ _) g.terms (λ k h. passes rs t k h (within k h) check))
@@ -65,7 +64,7 @@ module _ (g : Batch) where
   ports_length t = stacked_length _ port_words (λ k. refl) g.terms
 
   pub accepted : (t : ℕ) (os : List ℕ) → 1 ≤ g.terms → g.terms ≤ most_terms → length os ≡ output_words * g.terms
-      → clock_answer g.terms (run_attributes g.terms) (run_registers g t) (run_ports g t) os ≡ Accepted
+      → clock_answer g.terms (run_attributes g.terms) (run_registers g t) (run_ports g t) os ≡ passed
   unfolding clock_answer lengths_fit
   accepted t os some most room =
       rw (

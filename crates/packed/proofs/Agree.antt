@@ -9,9 +9,8 @@ use lib.ListN.{length}
 use lib.IntN.{ℤ}
 use borrow.Author.Tests.{eq-eqb}
 use Rattle.lent.specs.Refusing.{leaves}
-use Rattle.packed.specs.declared.Run.{Run}
 use Rattle.packed.specs.Packed.{Batch, run_clocks, run_list, read_answers, plain_answers}
-use Rattle.packed.specs.Calls.{number_of, clocked_run, ClockedDone, plain_run, PlainDone}
+use Rattle.packed.specs.Calls.{Run, number_of, clocked_run, ClockedDone, plain_run, PlainDone}
 use Rattle.packed.specs.Parts.{Ready, FedBytes}
 use Rattle.packed.proofs.Fed.{fed_term}
 use Rattle.packed.proofs.Passing.{all_passed, any_clocks}

@@ -1,8 +1,9 @@
 -- How large the dot product of bytes is, and as what a loop holds it. Assumes nothing.
 use Prim.Native.Nat.{ℕ, zero, suc, ◌+◌, ◌*◌, ◌^◌, ◌≤◌, ◌<◌, zero-le}
-use native.Mathlib.Nat.{le_refl, le_of_lt, lt_of_le_of_lt, mul-le-mul}
+use native.Mathlib.Nat.{le_refl, lt_of_le_of_lt, mul-le-mul}
+use native.Mathlib.Numerals.{add-one}
 use native.Mathlib.Omega.{arith}
-use mathlib.Core.Path.{◌≡◌, refl, ap, ap₂, ◌∙◌}
+use mathlib.Core.Path.{◌≡◌, refl, ap₂, ◌∙◌}
 use mathlib.Core.List.{List}
 use lib.Dec.{lit<}
 use lib.ListN.{get_or}
@@ -38,34 +39,32 @@ module _ (xs ys : List ℤ) (s : ℕ) where
 pub dot_fits : (z : ℤ) (n : ℕ) → n ≤ most_terms → nat_abs z ≤ n * 2 ^ 14 → SFits w32 z
 dot_fits z n few h = record { sfits = mag_lt z h (lt_of_le_of_lt (mul-le-mul few (le_refl (2 ^ 14))) (lit< tt)) }
 
--- ---- a dot product as a loop holds it: the bits of the first k products' sum
+-- ---- a dot product as a loop holds it: the first k products' sum
 
-pub record Held (xs ys : List ℤ) (s k : ℕ) (sum : ℕ) : Type 0 where
-  pub bits : sum ≡ of_z w32 (dot xs ys s k)
+pub record Summed (xs ys : List ℤ) (s k : ℕ) (sum : ℤ) : Type 0 where
+  pub is : sum ≡ dot xs ys s k
   pub size : nat_abs (dot xs ys s k) ≤ k * 2 ^ 14
 
 module _ (xs ys : List ℤ) (s : ℕ) where
-  pub none_held : Held xs ys s 0 0
+  pub none_summed : Summed xs ys s 0 (pos 0)
   unfolding dot
-  none_held = record { bits = refl; size = zero-le }
-
-  pub held : (k sum : ℕ) → k ≤ most_terms → Held xs ys s k sum → to_z w32 sum ≡ dot xs ys s k
-  held k sum few h = ap (to_z w32) h.bits ∙ to_z-of_z (dot_fits (dot xs ys s k) k few h.size)
+  none_summed = record { is = refl; size = zero-le }
 
   -- one product more, of which r came from the bits of both bytes
-  module _ (k sum : ℕ) (few : k < most_terms) (was : Held xs ys s k sum) (hx : Byte (get_or xs (s + k) (pos 0))) (hy : Byte (get_or ys (s + k) (pos 0)))
+  module _ (k : ℕ) (sum : ℤ) (few : k < most_terms) (was : Summed xs ys s k sum)
+      (hx : Byte (get_or xs (s + k) (pos 0))) (hy : Byte (get_or ys (s + k) (pos 0)))
       (r : ℤ) (ok : mag r < 2 ^ hbits w32) (is : r ≡ to_z w8 (of_z w8 (get_or xs (s + k) (pos 0))) *ℤ to_z w8 (of_z w8 (get_or ys (s + k) (pos 0)))) where
-    more : to_z w32 sum +ℤ to_z w32 (of_z w32 r) ≡ dot xs ys s (suc k)
+    more : sum +ℤ to_z w32 (of_z w32 r) ≡ dot xs ys s (suc k)
     unfolding dot
     more =
-        ap₂ (λ (x y : ℤ). x +ℤ y) (held k sum (le_of_lt few) was)
+        ap₂ (λ (x y : ℤ). x +ℤ y) was.is
         (kept w32 r ok ∙ is ∙ ap₂ (λ (x y : ℤ). x *ℤ y) (kept w8 (get_or xs (s + k) (pos 0)) hx) (kept w8 (get_or ys (s + k) (pos 0)) hy))
 
     size : nat_abs (dot xs ys s (suc k)) ≤ suc k * 2 ^ 14
     size = dot_more xs ys s k hx hy was.size
 
-    pub more_fits : SFits w32 (to_z w32 sum +ℤ to_z w32 (of_z w32 r))
+    pub more_fits : SFits w32 (sum +ℤ to_z w32 (of_z w32 r))
     more_fits = rw more (dot_fits (dot xs ys s (suc k)) (suc k) few size)
 
-    pub more_held : Held xs ys s (suc k) (of_z w32 (to_z w32 sum +ℤ to_z w32 (of_z w32 r)))
-    more_held = record { bits = ap (of_z w32) more; size = size }
+    pub more_summed : Summed xs ys s (k + 1) (to_z w32 (of_z w32 (sum +ℤ to_z w32 (of_z w32 r))))
+    more_summed = rw add-one (record { is = to_z-of_z more_fits ∙ more; size = size })

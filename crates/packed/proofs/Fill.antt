@@ -1,16 +1,16 @@
--- A lent list that a loop fills: the answers row by row, and words stretch by stretch. Assumes nothing.
+-- A lent list that a loop fills: the answers row by row, and words slice by slice. Assumes nothing.
 use Prim.Native.Nat.{ℕ, zero, suc, ◌+◌, ◌*◌, ◌≤◌, ◌<◌}
 use mathlib.Core.Path.{◌≡◌, refl, sym, ap, ap₂, ◌∙◌}
-use mathlib.Core.Logic.{⊎_elim}
-use mathlib.Core.List.{List, [], ◌∷◌, ◌++◌, append_assoc}
-use native.Mathlib.Nat.{le_refl, mul-zero, mul-le-mul_left, le_of_suc-le-suc, eq-or-lt_of_le, le_of_eq}
+use mathlib.Core.List.{List, [], ◌∷◌, ◌++◌, append_assoc, append-nil}
+use native.Mathlib.Nat.{le_refl}
 use native.Mathlib.Numerals.{add-one}
 use native.Mathlib.Omega.{arith}
-use lib.ListN.{length, take, drop, set, replicate, length-set, length-replicate}
-use lib.Seq.{take-suc-set, take_all, take-append-le}
+use lib.ListN.{length, get_or, take, set, length-set}
+use lib.Seq.{take-suc, take-suc-set, take_all}
 use lib.IntN.{ℤ}
+use Rattle.std.specs.List.{flat_map}
+use Rattle.std.proofs.lemmas.Grind.{flat_map-append}
 use Rattle.column.specs.Column.{stacked}
-use Rattle.column.proofs.Stacks.{stacked_length, stacked_zeros, written, whole, finished}
 use Rattle.packed.specs.Packed.{pairs}
 use Rattle.packed.specs.Parts.{with_row}
 
@@ -56,43 +56,12 @@ module _ (high low : ℕ → ℤ) (n : ℕ) where
       let e : j ≡ n = let m = f.most in omega arith in
       sym (take_all (2 * j) os (omega arith)) ∙ f.done ∙ ap (pairs high low) e
 
--- the first k of count stretches of n words are written over the list old
-pub record Written (f : ℕ → List ℕ) (n count k : ℕ) (old ws : List ℕ) : Type 0 where
-  pub most : k ≤ count
-  pub words : ws ≡ stacked f k ++ drop (n * k) old
-  pub long : length ws ≡ n * count
+-- lists, each of which is f's at its place, one after the other
+module _ (f : ℕ → List ℕ) (xss : List (List ℕ)) where
+  first : (n : ℕ) → n ≤ length xss → ((k : ℕ) → k < n → get_or xss k [] ≡ f k) → flat_map (λ (xs : List ℕ). xs) (take n xss) ≡ stacked f n
+  first zero h e = refl
+  first (suc n) h e =
+      rw (take-suc xss n [] h, flat_map-append, first n (omega arith) (λ k l. e k (omega arith)), e n (le_refl (suc n)), append-nil)
 
-module _ (f : ℕ → List ℕ) (n : ℕ) (each : (k : ℕ) → length (f k) ≡ n) (count : ℕ) (old : List ℕ) (fits : length old ≡ n * count) where
-  pub none_written : Written f n count 0 old old
-  none_written = record { most = omega arith; words = rw mul-zero; long = fits }
-
-  pub one_written : (k : ℕ) (ws new : List ℕ) → k < count → Written f n count k old ws → new ≡ f k
-      → Written f n count (k + 1) old (take (n * k) ws ++ (new ++ drop n (drop (n * k) ws)))
-  one_written k ws new turn w e =
-      let next = written f n each k old ws w.words new e in
-      let most : k + 1 ≤ count = omega arith in
-      record { most = most; words = next; long = ap length next ∙ whole f n each (k + 1) count old most fits }
-
-  pub all_written : (k : ℕ) (ws : List ℕ) → count ≤ k → Written f n count k old ws → ws ≡ stacked f count
-  all_written k ws h w =
-      let e : k ≡ count = let m = w.most in omega arith in
-      rw e at w.words ∙ finished f n each count old fits
-
--- ---- the first k of count stretches
-
-pub stacked_prefix : (f : ℕ → List ℕ) (n : ℕ) → ((k : ℕ) → length (f k) ≡ n) → (k count : ℕ) → k ≤ count
-    → take (n * k) (stacked f count) ≡ stacked f k
-stacked_prefix f n each k zero h = let e : k ≡ 0 = omega arith in rw (e, mul-zero)
-stacked_prefix f n each k (suc count) h =
-    ⊎_elim
-    (λ (e : k ≡ suc count).
-    rw e (take_all (n * suc count) (stacked f (suc count)) (le_of_eq (stacked_length f n each (suc count)))))
-    (λ (l : k < suc count).
-    let room : n * k ≤ length (stacked f count) = rw (stacked_length f n each count) (mul-le-mul_left n (le_of_suc-le-suc l)) in
-    take-append-le (n * k) (stacked f count) (f count) room ∙ stacked_prefix f n each k count (le_of_suc-le-suc l))
-    (eq-or-lt_of_le h)
-
--- of zeros
-pub zeros_prefix : (n k count : ℕ) → k ≤ count → take {A = ℕ} (n * k) (replicate (n * count) 0) ≡ replicate (n * k) 0
-zeros_prefix n k count h =
-    rw (← stacked_zeros n count) (stacked_prefix (λ k. replicate n 0) n (λ k. length-replicate n 0) k count h ∙ stacked_zeros n k)
+  pub flattened : (n : ℕ) → length xss ≡ n → ((k : ℕ) → k < n → get_or xss k [] ≡ f k) → flat_map (λ (xs : List ℕ). xs) xss ≡ stacked f n
+  flattened n h e = let all : length xss ≤ n = omega arith in rw take_all at (first n (omega arith) e)

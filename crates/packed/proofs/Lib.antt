@@ -1,5 +1,6 @@
 pub mod Sizes
 pub mod Dots
+pub mod Zipped
 pub mod LowSums
 pub mod Fed
 pub mod Fill

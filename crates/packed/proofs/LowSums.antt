@@ -5,21 +5,22 @@ use native.Mathlib.Nat.{le_refl, le_trans, mul-le-mul, mul_comm, eq-or-lt_of_le}
 use native.Mathlib.Omega.{arith}
 use mathlib.Core.Path.{◌≡◌, refl, sym, ap, ap₂, ◌∙◌}
 use mathlib.Core.Logic.{⊎_elim}
-use mathlib.Core.Bool.{Bool, true, false, true≢false}
+use mathlib.Core.Bool.{Bool, true, false, true≢false, ◌&&◌}
 use mathlib.Core.List.{List}
 use lib.Dec.{eqb}
-use lib.ListN.{get_or}
+use lib.ListN.{length, get_or, take, drop, length-drop}
+use lib.Seq.{take-suc, get_or-drop}
+use Rattle.std.specs.List.{fold}
+use Rattle.std.proofs.lemmas.Grind.{fold-append}
 use lib.IntN.{ℤ, pos, negsuc, nat_abs, sub_ℕ, ◌+ℤ◌, ◌*ℤ◌}
 use lib.Signed.{mag, nat_abs-le}
 use borrow.Author.Tests.{eqb-true, eq-eqb}
-use mir.Syntax.{w8}
-use mir.Val.{of_z, to_z}
 use Rattle.word.specs.Word.{low_sum}
-use Rattle.word.proofs.Laws.{same_test, both_true, signed_small}
+use Rattle.word.proofs.Laws.{both_true, signed_small}
 use Rattle.word.proofs.Integers.{up, down, parts, as_sub, pos_sub, add_sub}
 use Rattle.packed.specs.Packed.{most_terms, Batch, Byte, dot, low_dot}
 use Rattle.packed.specs.Calls.{is_lowest, all_lowest, overfull}
-use Rattle.packed.proofs.Sizes.{nat_abs_mul, nat_abs_mul_le, kept}
+use Rattle.packed.proofs.Sizes.{nat_abs_mul, nat_abs_mul_le}
 use Rattle.packed.proofs.Dots.{Bytes, dot_size}
 
 -- ---- one number
@@ -28,12 +29,15 @@ lowest_is : (z : ℤ) → is_lowest z ≡ true → z ≡ negsuc 127
 lowest_is (pos n) e = cc
 lowest_is (negsuc n) e = ap negsuc (eqb-true n 127 e)
 
--- a byte's bits tell it
-pub lowest_bits : (z : ℤ) → Byte z → eqb (of_z w8 z) 128 ≡ is_lowest z
-lowest_bits z h =
-    same_test (eqb (of_z w8 z) 128) (is_lowest z)
-    (λ e. ap is_lowest (sym (kept w8 z h) ∙ ap (to_z w8) (eqb-true (of_z w8 z) 128 e)))
-    (λ e. eq-eqb (of_z w8 z) 128 (ap (of_z w8) (lowest_is z e)))
+-- n numbers from place s on, one after the other
+pub all_folded : (xs : List ℤ) (s n : ℕ) → s + n ≤ length xs
+    → fold (λ (all : Bool) (v : ℤ). all && is_lowest v) true (take n (drop s xs)) ≡ all_lowest xs s n
+unfolding all_lowest
+all_folded xs s zero h = refl
+all_folded xs s (suc n) h =
+    let room : n < length (drop s xs) = simp length-drop (omega arith) in
+    let here : get_or (drop s xs) n (pos 0) ≡ get_or xs (s + n) (pos 0) = rw get_or-drop in
+    rw (take-suc (drop s xs) n (pos 0) room, fold-append, all_folded xs s n (omega arith), here)
 
 -- ---- a sum and a product that are as large as they can be
 

@@ -1,28 +1,24 @@
 -- Laws of the checks: what has passed where a run is accepted, and that a refusal is the same whatever was to follow. Assumes nothing.
 use mathlib.Core.Path.{◌≡◌, refl, sym, ap, ◌∙◌}
-use mathlib.Core.Logic.{⊎_elim}
 use mathlib.Core.Bool.{Bool, true, false, ◌&&◌}
-use mathlib.Core.List.{[], ◌∷◌}
+use mathlib.Core.List.{List, []}
 use Prim.Native.Nat.{ℕ, ◌+◌, ◌*◌, ◌≤◌, ◌<◌}
-use native.Mathlib.Nat.{lt_of_lt_of_le, mul-le-mul, mul-le-mul_right, not-suc-le-zero, suc-mul}
+use native.Mathlib.Nat.{lt_of_lt_of_le, mul-le-mul_right, suc-mul}
 use native.Mathlib.Omega.{arith}
 use lib.Dec.{leb, eqb, lit<}
 use lib.ListN.{length}
+use lib.IntN.{ℤ}
 use borrow.Author.Tests.{leb-true, eqb-true, ne_eqb}
-use types.Run.{OneOf}
-use denote.Enum.Declared.{tag_of}
 use Rattle.word.proofs.Laws.{both_true}
-use Rattle.lent.specs.Refusing.{unless}
-use Rattle.column.specs.declared.refusals.Found.{Found}
-use Rattle.column.specs.declared.refusals.Found.TheVariants.{Nothing, At}
+use Rattle.std.specs.Prelude.{Option, None, Some, Result, Ok, Err}
+use Rattle.lent.specs.Refusing.{unless, leaves}
 use Rattle.column.specs.Refusals.{lowest}
 use Rattle.column.proofs.Search.{lowest_none, none_lowest, lowest_says}
-use Rattle.packed.specs.declared.Run.{Run}
-use Rattle.packed.specs.declared.Run.TheVariants.{Ran, BadTerms, BadRows, BadLength, Overfull}
-use Rattle.packed.specs.Packed.{most_terms, most_rows, Batch}
-use Rattle.packed.specs.Calls.{number_of, place_of, terms_fit, rows_fit, lengths_fit, overfull, refuse_row, sized, checked}
+use Rattle.packed.specs.declared.Refusal.{Refusal}
+use Rattle.packed.specs.declared.Refusal.TheVariants.{BadTerms, BadRows, BadLength, Overfull}
+use Rattle.packed.specs.Packed.{most_terms, most_rows, Batch, batch}
+use Rattle.packed.specs.Calls.{Run, number_of, place_of, terms_fit, rows_fit, lengths_fit, overfull, refuse_row, sized, checked, clocked_run, plain_run, ClockedDone, PlainDone}
 use Rattle.packed.specs.Parts.{Ready, Looked}
-use Rattle.packed.specs.contracts.Run.{the_type}
 
 -- a number from 1 to the most
 pub bounds : (n most : ℕ) → leb 1 n && leb n most ≡ true → (1 ≤ n) × (n ≤ most)
@@ -38,69 +34,93 @@ lengths_equal g answers p =
     let q1 = both_true (eqb (length g.a) (g.rows * g.terms)) (eqb (length g.d) (g.rows * g.terms)) q2.0 in
     (eqb-true _ _ q1.0, eqb-true _ _ q1.1, eqb-true _ _ q2.1, eqb-true _ _ q3.1)
 
+-- ---- a number is 0 where the run is not refused, and above 0 where it is
+
+pub zero_ok : (r : Run) → number_of r ≡ 0 → (n : ℕ) × (r ≡ Ok n)
+zero_ok (Ok n) e = (n, refl)
+zero_ok (Err BadTerms) e = absurd (omega arith)
+zero_ok (Err BadRows) e = absurd (omega arith)
+zero_ok (Err BadLength) e = absurd (omega arith)
+zero_ok (Err (Overfull row)) e = absurd (omega arith)
+
+-- so a refusal leaves what was there
+left : {X : Type 0} (e : Refusal) (new old : X) → old ≡ leaves (number_of (Err e)) new old
+left BadTerms new old = refl
+left BadRows new old = refl
+left BadLength new old = refl
+left (Overfull row) new old = refl
+
+pub clocked_refused : {g : Batch} {os : List ℤ} {ws : List ℕ} {e : Refusal} → Err e ≡ clocked_run g os ws → ClockedDone g os ws (Err e) os ws
+clocked_refused {e = e} is = record { run = is; list = rw (← is) (left e _ _); answers = rw (← is) (left e _ _); exact = rw (← is) (left e _ _) }
+
+pub plain_refused : {g : Batch} {os : List ℤ} {e : Refusal} → Err e ≡ plain_run g os → PlainDone g os (Err e) os
+plain_refused {e = e} is = record { run = is; answers = rw (← is) (left e _ _) }
+
 -- ---- three checks in a row, and the rows
 
-abbrev three : (x y z : Bool) → Run → Run
-three x y z next = unless x BadTerms (unless y BadRows (unless z BadLength next))
+abbrev three : {A : Type 0} → (x y z : Bool) → Result A Refusal → Result A Refusal
+three x y z next = unless x (Err BadTerms) (unless y (Err BadRows) (unless z (Err BadLength) next))
 
-three_pass : (x y z : Bool) (next : Run) → number_of (three x y z next) ≡ 0 → (x ≡ true) × (y ≡ true) × (z ≡ true) × (number_of next ≡ 0)
-three_pass true true true next e = (refl, refl, refl, e)
-three_pass true true false next e = absurd (omega arith)
-three_pass true false z next e = absurd (omega arith)
-three_pass false y z next e = absurd (omega arith)
+three_pass : {A : Type 0} (x y z : Bool) (next : Result A Refusal) (v : A) → three x y z next ≡ Ok v
+    → (x ≡ true) × (y ≡ true) × (z ≡ true) × (next ≡ Ok v)
+three_pass true true true next v e = (refl, refl, refl, e)
+three_pass true true false next v e = cc
+three_pass true false z next v e = cc
+three_pass false y z next v e = cc
 
 -- a refusal is the same whatever was to follow
-three_refuse : (x y z : Bool) (m : ℕ) (next : Run) → 0 < number_of (three x y z (Ran m)) → three x y z (Ran m) ≡ three x y z next
-three_refuse true true true m next h = absurd (not-suc-le-zero h)
-three_refuse true true false m next h = refl
-three_refuse true false z m next h = refl
-three_refuse false y z m next h = refl
+three_refuse : {A B : Type 0} (x y z : Bool) (v : A) (next : Result B Refusal) (r : Refusal) → three x y z (Ok v) ≡ Err r → three x y z next ≡ Err r
+three_refuse true true true v next r e = cc
+three_refuse true true false v next r e = cc
+three_refuse true false z v next r e = cc
+three_refuse false y z v next r e = cc
 
-row_pass : (found : Found) (m : ℕ) → number_of (refuse_row found (Ran m)) ≡ 0 → found ≡ Nothing
-row_pass Nothing m e = refl
-row_pass (At j) m e = absurd (omega arith)
+row_pass : {A : Type 0} (found : Option ℕ) (v w : A) → refuse_row found (Ok v) ≡ Ok w → found ≡ None
+row_pass None v w e = refl
+row_pass (Some j) v w e = cc
 
-row_refuse : (found : Found) (m n : ℕ) → 0 < number_of (refuse_row found (Ran m)) → refuse_row found (Ran m) ≡ refuse_row found (Ran n)
-row_refuse Nothing m n h = absurd (not-suc-le-zero h)
-row_refuse (At j) m n h = refl
+row_refuse : {A B : Type 0} (found : Option ℕ) (v : A) (w : B) (r : Refusal) → refuse_row found (Ok v) ≡ Err r → refuse_row found (Ok w) ≡ Err r
+row_refuse None v w r e = cc
+row_refuse (Some j) v w r e = cc
 
 -- 14 is by the row that is found
-three_row : (x y z : Bool) (found : Found) (m j : ℕ) → three x y z (refuse_row found (Ran m)) ≡ Overfull j → found ≡ At j
-three_row true true true Nothing m j e = let clash = ap number_of e in absurd (omega arith)
-three_row true true true (At i) m j e = ap At (ap place_of e)
-three_row true true false found m j e = let clash = ap number_of e in absurd (omega arith)
-three_row true false z found m j e = let clash = ap number_of e in absurd (omega arith)
-three_row false y z found m j e = let clash = ap number_of e in absurd (omega arith)
+three_row : (x y z : Bool) (found : Option ℕ) (m j : ℕ) → three x y z (refuse_row found (Ok m)) ≡ Err (Overfull j) → found ≡ Some j
+three_row true true true None m j e = cc
+three_row true true true (Some i) m j e = cc
+three_row true true false found m j e = cc
+three_row true false z found m j e = cc
+three_row false y z found m j e = cc
 
 -- what does not look at the clocks is the same for any
-three_any : {X : Type 0} (f : Run → X) → ((m n : ℕ) → f (Ran m) ≡ f (Ran n)) → (x y z : Bool) (found : Found) (m n : ℕ)
-    → f (three x y z (refuse_row found (Ran m))) ≡ f (three x y z (refuse_row found (Ran n)))
-three_any f same true true true Nothing m n = same m n
-three_any f same true true true (At j) m n = refl
+three_any : {X : Type 0} (f : Run → X) → ((m n : ℕ) → f (Ok m) ≡ f (Ok n)) → (x y z : Bool) (found : Option ℕ) (m n : ℕ)
+    → f (three x y z (refuse_row found (Ok m))) ≡ f (three x y z (refuse_row found (Ok n)))
+three_any f same true true true None m n = same m n
+three_any f same true true true (Some j) m n = refl
 three_any f same true true false found m n = refl
 three_any f same true false z found m n = refl
 three_any f same false y z found m n = refl
 
--- no row is overfull with fewer than eight terms, nor where the look has found none
-pub few_terms : (g : Batch) → g.terms < most_terms → lowest (overfull g) g.rows ≡ Nothing
+-- no row is overfull with fewer than eight terms
+pub few_terms : (g : Batch) → g.terms < most_terms → lowest (overfull g) g.rows ≡ None
 few_terms g h = none_lowest (overfull g) g.rows (λ j l. rw (ne_eqb g.terms most_terms (λ e. omega (arith, e, h))))
 
-pub looked_none : (g : Batch) (r : Run) (n : ℕ) → r ≡ refuse_row (lowest (overfull g) g.rows) (Ran 0) → r ≡ Ran n → lowest (overfull g) g.rows ≡ Nothing
-looked_none g r n is ran = row_pass (lowest (overfull g) g.rows) 0 (ap number_of (sym is ∙ ran))
+pub few_looked : (terms rows : ℕ) (d b : List ℤ) → terms < most_terms
+    → ◌≡◌ {A = Result (Unit {0}) Refusal} (Ok tt) (refuse_row (lowest (overfull (batch terms rows [] d b)) rows) (Ok tt))
+few_looked terms rows d b h = ap (λ (found : Option ℕ). refuse_row {A = Unit {0}} found (Ok tt)) (sym (few_terms (batch terms rows [] d b) h))
 
 module _ (g : Batch) (answers : ℕ) (list : Bool) where
   -- the terms, the rows and the lengths are right
   pub record Sized : Type 0 where
     pub ready : ((j : ℕ) → j < g.rows → overfull g j ≡ false) → Ready g
-    pub looked : (r : Run) → Looked g r → r ≡ refuse_row (lowest (overfull g) g.rows) (Ran 0)
+    pub looked : (r : Result Unit Refusal) → Looked g r → r ≡ refuse_row (lowest (overfull g) g.rows) (Ok tt)
     pub answers_fit : answers ≡ 2 * g.rows
     pub list_fits_lem : list ≡ true
     pub goes_on_lem : (next : Run) → sized g answers list next ≡ next
 
-  pub fits : (next : Run) → number_of (sized g answers list next) ≡ 0 → Sized × (number_of next ≡ 0)
+  pub fits : {A : Type 0} (next : Result A Refusal) (v : A) → sized g answers list next ≡ Ok v → Sized × (next ≡ Ok v)
   unfolding sized
-  fits next accepted =
-      let p = three_pass (terms_fit g.terms) (rows_fit g.rows) (lengths_fit g answers && list) next accepted in
+  fits next v accepted =
+      let p = three_pass (terms_fit g.terms) (rows_fit g.rows) (lengths_fit g answers && list) next v accepted in
       let lengths = both_true (lengths_fit g answers) list p.2 in
       let equal = lengths_equal g answers lengths.0 in
       let terms = bounds g.terms most_terms p.0 in
@@ -119,52 +139,53 @@ module _ (g : Batch) (answers : ℕ) (list : Bool) where
   -- where the run is accepted, no row is overfull either
   pub record Passed : Type 0 where
     pub ready : Ready g
-    pub ran : (n : ℕ) → checked g answers list n ≡ Ran n
+    pub ran : (n : ℕ) → checked g answers list n ≡ Ok n
 
-  pub passed : Sized → lowest (overfull g) g.rows ≡ Nothing → Passed
+  pub passed : Sized → lowest (overfull g) g.rows ≡ None → Passed
   unfolding checked
   passed is none =
       record {
         ready = is.ready (λ j h. lowest_none (overfull g) g.rows j none h);
-        ran = λ n. is.goes_on_lem (refuse_row (lowest (overfull g) g.rows) (Ran n)) ∙ rw none;
+        ran = λ n. is.goes_on_lem (refuse_row (lowest (overfull g) g.rows) (Ok n)) ∙ rw none;
       }
 
   -- as a run has it: its sizes are right; there are fewer than eight terms, or the rows are looked at
-  pub ran_sized : {n : ℕ} → Ran n ≡ sized g answers list (Ran 0) → Sized
-  ran_sized e = (fits (Ran 0) (ap number_of (sym e))).0
+  pub ran_sized : Ok tt ≡ sized {A = Unit {0}} g answers list (Ok tt) → Sized
+  ran_sized e = (fits (Ok tt) tt (sym e)).0
 
   pub few_passed : Sized → g.terms < most_terms → Passed
   few_passed is h = passed is (few_terms g h)
 
-  pub looked_passed : {r : Run} {n : ℕ} → Sized → Looked g r → r ≡ Ran n → Passed
-  looked_passed {r} {n} is found ran = passed is (looked_none g r n (is.looked r found) ran)
+  pub looked_passed : Sized → Looked g (Ok tt) → Passed
+  looked_passed is found = passed is (row_pass (lowest (overfull g) g.rows) tt tt (sym (is.looked (Ok tt) found)))
 
   pub all_passed : (m : ℕ) → number_of (checked g answers list m) ≡ 0 → Passed
   unfolding checked
   all_passed m accepted =
-      let p = fits (refuse_row (lowest (overfull g) g.rows) (Ran m)) accepted in
-      passed p.0 (row_pass (lowest (overfull g) g.rows) m p.1)
+      let ran = zero_ok (checked g answers list m) accepted in
+      let p = fits (refuse_row (lowest (overfull g) g.rows) (Ok m)) ran.0 ran.1 in
+      passed p.0 (row_pass (lowest (overfull g) g.rows) m ran.0 p.1)
 
   -- a refusal by size is the run's
-  pub size_refusal : (m n : ℕ) → 0 < number_of (sized g answers list (Ran m)) → sized g answers list (Ran m) ≡ checked g answers list n
+  pub size_refusal : {r : Refusal} (n : ℕ) → Err r ≡ sized {A = Unit {0}} g answers list (Ok tt) → Err r ≡ checked g answers list n
   unfolding checked sized
-  size_refusal m n h =
-      three_refuse (terms_fit g.terms) (rows_fit g.rows) (lengths_fit g answers && list) m (refuse_row (lowest (overfull g) g.rows) (Ran n)) h
+  size_refusal {r} n e =
+      sym (three_refuse (terms_fit g.terms) (rows_fit g.rows) (lengths_fit g answers && list) tt (refuse_row (lowest (overfull g) g.rows) (Ok n)) r (sym e))
 
   -- and so is one by a row
-  pub row_refusal : (r : Run) (n : ℕ) → Sized → r ≡ refuse_row (lowest (overfull g) g.rows) (Ran 0) → 0 < number_of r → r ≡ checked g answers list n
+  pub row_refusal : {r : Refusal} (n : ℕ) → Sized → Looked g (Err r) → Err r ≡ checked g answers list n
   unfolding checked
-  row_refusal r n is found h =
-      found
-      ∙ row_refuse (lowest (overfull g) g.rows) 0 n (rw found at h)
-      ∙ sym (is.goes_on_lem (refuse_row (lowest (overfull g) g.rows) (Ran n)))
+  row_refusal {r} n is found =
+      sym
+      (is.goes_on_lem (refuse_row (lowest (overfull g) g.rows) (Ok n))
+      ∙ row_refuse (lowest (overfull g) g.rows) tt n r (sym (is.looked (Err r) found)))
 
-  pub any_clocks : {X : Type 0} (f : Run → X) → ((m n : ℕ) → f (Ran m) ≡ f (Ran n)) → (m n : ℕ) → f (checked g answers list m) ≡ f (checked g answers list n)
+  pub any_clocks : {X : Type 0} (f : Run → X) → ((m n : ℕ) → f (Ok m) ≡ f (Ok n)) → (m n : ℕ) → f (checked g answers list m) ≡ f (checked g answers list n)
   unfolding checked sized
   any_clocks f same m n = three_any f same (terms_fit g.terms) (rows_fit g.rows) (lengths_fit g answers && list) (lowest (overfull g) g.rows) m n
 
   -- 14 names the lowest overfull row, which is one of the run's
-  pub names_lowest : (m j : ℕ) → checked g answers list m ≡ Overfull j → (j < g.rows) × (overfull g j ≡ true) × ((i : ℕ) → i < j → overfull g i ≡ false)
+  pub names_lowest : (m j : ℕ) → checked g answers list m ≡ Err (Overfull j) → (j < g.rows) × (overfull g j ≡ true) × ((i : ℕ) → i < j → overfull g i ≡ false)
   unfolding checked sized
   names_lowest m j e =
       lowest_says (overfull g) g.rows j
@@ -174,34 +195,14 @@ module _ (g : Batch) (answers : ℕ) (list : Bool) where
   unfolding checked sized
   checked_place m = by (terms_fit g.terms) (rows_fit g.rows) refl (lengths_fit g answers && list) (lowest (overfull g) g.rows) refl
     where
-      by : (x y : Bool) → rows_fit g.rows ≡ y → (z : Bool) (found : Found) → lowest (overfull g) g.rows ≡ found → place_of (three x y z (refuse_row found (Ran m))) < most_rows
-      by true true few true (At j) is = lt_of_lt_of_le (lowest_says (overfull g) g.rows j is).0 (bounds g.rows most_rows few).1
-      by true true few true Nothing is = lit< tt
+      by : (x y : Bool) → rows_fit g.rows ≡ y → (z : Bool) (found : Option ℕ) → lowest (overfull g) g.rows ≡ found → place_of (three x y z (refuse_row found (Ok m))) < most_rows
+      by true true few true (Some j) is = lt_of_lt_of_le (lowest_says (overfull g) g.rows j is).0 (bounds g.rows most_rows few).1
+      by true true few true None is = lit< tt
       by true true few false found is = lit< tt
       by true false few z found is = lit< tt
       by false y few z found is = lit< tt
 
--- ---- refused
-
--- an answer of another variant than the first
-pub refusal : (r : Run) → OneOf (1 ∷ 2 ∷ 3 ∷ 4 ∷ []) (tag_of the_type r) → 0 < number_of r
-refusal (Ran n) h = absurd (⊎_elim (λ e. omega arith) (λ l. ⊎_elim (λ e. omega arith) (λ m. ⊎_elim (λ e. omega arith) (λ e. omega arith) m) l) h)
-refusal BadTerms h = lit< tt
-refusal BadRows h = lit< tt
-refusal BadLength h = lit< tt
-refusal (Overfull row) h = lit< tt
-
-pub not_ran : (r : Run) → ((n : ℕ) → r ≡ Ran n → ⊥) → 0 < number_of r
-not_ran (Ran n) h = absurd (h n refl)
-not_ran BadTerms h = lit< tt
-not_ran BadRows h = lit< tt
-not_ran BadLength h = lit< tt
-not_ran (Overfull row) h = lit< tt
-
 -- ---- areas
-
-pub area_small : {rows terms : ℕ} → rows ≤ most_rows → terms ≤ most_terms → rows * terms ≤ most_rows * most_terms
-area_small h k = mul-le-mul h k
 
 -- the end of row j's terms
 pub row_end : {j rows : ℕ} (terms : ℕ) → j < rows → j * terms + terms ≤ rows * terms

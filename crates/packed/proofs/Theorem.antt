@@ -17,8 +17,7 @@ use Rattle.word.proofs.PackedWord.{packed, low_read, high_read}
 use Rattle.unit.specs.Unit.{wrapped_sum, true_sum, pre_adder, product}
 use Rattle.unit.proofs.PreAdder.{pre_adder_exact}
 use Rattle.records.specs.Records.{output_words}
-use Rattle.column.specs.declared.Answer.TheVariants.{Accepted}
-use Rattle.column.specs.Refusals.{clock_answer}
+use Rattle.column.specs.Refusals.{accepted as passed, clock_answer}
 use Rattle.packed.specs.Packed.{most_terms, Batch, Byte, run_attributes, run_ports, run_registers, top, run_list, row_word, read_answers, dot, high_dot, low_dot, plain_answers}
 use Rattle.packed.specs.Calls.{overfull}
 use Rattle.packed.proofs.Sizes.{nat_abs_add, nat_abs_mul_le, mag_lt, more_lanes}
@@ -137,7 +136,7 @@ pub record PackedRun (g : Batch) : Type 0 where
   pub row : (j : ℕ) → j < g.rows → Exact (top g (j + g.terms + 3)) (high_dot g j) (low_dot g j)
   -- every clock is accepted
   pub clock_accepted : (t : ℕ) (os : List ℕ) → length os ≡ output_words * g.terms
-      → clock_answer g.terms (run_attributes g.terms) (run_registers g t) (run_ports g t) os ≡ Accepted
+      → clock_answer g.terms (run_attributes g.terms) (run_registers g t) (run_ports g t) os ≡ passed
   -- the clocks are rows + terms + 3, and the list has one word for each
   pub clocks : length (run_list g) ≡ g.rows + g.terms + 3
   pub word_of_lem : (t : ℕ) → t < g.rows + g.terms + 3 → get_or (run_list g) t 0 ≡ top g t

@@ -9,7 +9,8 @@ use Rattle.unit.specs.Unit.{arithmetic, lanes, unit_result, split_result, wrappe
 use Rattle.unit.specs.Detector.{unmasked, detected}
 use Rattle.slice.specs.Slice.{controls_of, selects_of, paths_of, a_side, d_side, pre_added_of, left_of, right_of, product_of, operands_of, slice_operands, result_of, settled_of, slice_settled, outputs_of_settled, cascade_of, edge, next_of, slice_outputs, slice_cascade, slice_next}
 use Rattle.column.specs.Column.{cascade_into, shown_at, next_at, column_shown, column_next, after}
-use Rattle.packed.specs.declared.Run.TheVariants.{Ran, BadTerms, BadRows, BadLength, Overfull}
+use Rattle.std.specs.Prelude.{Ok, Err}
+use Rattle.packed.specs.declared.Refusal.TheVariants.{BadTerms, BadRows, BadLength, Overfull}
 use Rattle.packed.specs.Packed.{Batch, batch, fed, run_attributes, run_ports, run_registers, top, run_list, pairs, read_answers, dot, plain_answers}
 use Rattle.packed.specs.Calls.{number_of, clocks_of, place_of, lengths_fit, all_lowest, sized, checked, clocked_run, plain_run}
 
@@ -63,26 +64,26 @@ pub record Refused : Type 0 where
   pub list_short : number_of (clocked_run (zeros 7 1) (replicate 2 (pos 0)) (replicate 10 0)) ≡ 2
   pub list_long : number_of (clocked_run (zeros 7 1) (replicate 2 (pos 0)) (replicate 12 0)) ≡ 2
   -- seven and eight terms pass: 1 + 7 + 3 clocks, 1 + 8 + 3, and none in the plain run
-  pub seven_terms : clocked_run (zeros 7 1) (replicate 2 (pos 0)) (replicate 11 0) ≡ Ran 11
-  pub eight_terms : clocked_run (zeros 8 1) (replicate 2 (pos 0)) (replicate 12 0) ≡ Ran 12
-  pub plain_steps_none : plain_run (zeros 8 1) (replicate 2 (pos 0)) ≡ Ran 0
+  pub seven_terms : clocked_run (zeros 7 1) (replicate 2 (pos 0)) (replicate 11 0) ≡ Ok 11
+  pub eight_terms : clocked_run (zeros 8 1) (replicate 2 (pos 0)) (replicate 12 0) ≡ Ok 12
+  pub plain_steps_none : plain_run (zeros 8 1) (replicate 2 (pos 0)) ≡ Ok 0
   -- eight terms all −128 are 14 at row 0; seven pass as they did
-  pub all_lowest_lem : (clocked_run (lowests 8 1) (replicate 2 (pos 0)) (replicate 12 0) ≡ Overfull 0) × (plain_run (lowests 8 1) (replicate 2 (pos 0)) ≡ Overfull 0)
-  pub seven_lowest : (clocked_run (lowests 7 1) (replicate 2 (pos 0)) (replicate 11 0) ≡ Ran 11) × (plain_run (lowests 7 1) (replicate 2 (pos 0)) ≡ Ran 0)
+  pub all_lowest_lem : (clocked_run (lowests 8 1) (replicate 2 (pos 0)) (replicate 12 0) ≡ Err (Overfull 0)) × (plain_run (lowests 8 1) (replicate 2 (pos 0)) ≡ Err (Overfull 0))
+  pub seven_lowest : (clocked_run (lowests 7 1) (replicate 2 (pos 0)) (replicate 11 0) ≡ Ok 11) × (plain_run (lowests 7 1) (replicate 2 (pos 0)) ≡ Ok 0)
   -- one b −127 passes, and so does one d
-  pub one_b_less : plain_run (batch 8 1 (lowests 8 1).a (lowests 8 1).d (negsuc 126 ∷ (lowests 7 1).b)) (replicate 2 (pos 0)) ≡ Ran 0
-  pub one_d_less : plain_run (batch 8 1 (lowests 8 1).a (negsuc 126 ∷ (lowests 7 1).d) (lowests 8 1).b) (replicate 2 (pos 0)) ≡ Ran 0
+  pub one_b_less : plain_run (batch 8 1 (lowests 8 1).a (lowests 8 1).d (negsuc 126 ∷ (lowests 7 1).b)) (replicate 2 (pos 0)) ≡ Ok 0
+  pub one_d_less : plain_run (batch 8 1 (lowests 8 1).a (negsuc 126 ∷ (lowests 7 1).d) (lowests 8 1).b) (replicate 2 (pos 0)) ≡ Ok 0
   -- d all −128 with b all 127, and b all −128 with d all 127, pass
-  pub b_highest : plain_run (batch 8 1 (lowests 8 1).a (lowests 8 1).d (all (pos 127) 8 1).b) (replicate 2 (pos 0)) ≡ Ran 0
-  pub d_highest : plain_run (batch 8 1 (lowests 8 1).a (all (pos 127) 8 1).d (lowests 8 1).b) (replicate 2 (pos 0)) ≡ Ran 0
+  pub b_highest : plain_run (batch 8 1 (lowests 8 1).a (lowests 8 1).d (all (pos 127) 8 1).b) (replicate 2 (pos 0)) ≡ Ok 0
+  pub d_highest : plain_run (batch 8 1 (lowests 8 1).a (all (pos 127) 8 1).d (lowests 8 1).b) (replicate 2 (pos 0)) ≡ Ok 0
   -- of the rows 1 to 3 the lowest is named
-  pub lowest_row : (clocked_run three_overfull (replicate 8 (pos 0)) (replicate 15 0) ≡ Overfull 1) × (plain_run three_overfull (replicate 8 (pos 0)) ≡ Overfull 1)
+  pub lowest_row : (clocked_run three_overfull (replicate 8 (pos 0)) (replicate 15 0) ≡ Err (Overfull 1)) × (plain_run three_overfull (replicate 8 (pos 0)) ≡ Err (Overfull 1))
 
 -- the number of each answer, its clocks and its place
 pub record Told : Type 0 where
-  pub numbers : (number_of (Ran 11) ≡ 0) × (number_of BadTerms ≡ 10) × (number_of BadRows ≡ 11) × (number_of BadLength ≡ 2) × (number_of (Overfull 5) ≡ 14)
-  pub clocks : (clocks_of (Ran 11) ≡ 11) × (clocks_of BadTerms ≡ 0) × (clocks_of BadRows ≡ 0) × (clocks_of BadLength ≡ 0) × (clocks_of (Overfull 5) ≡ 0)
-  pub places : (place_of (Ran 11) ≡ 0) × (place_of BadTerms ≡ 0) × (place_of BadRows ≡ 0) × (place_of BadLength ≡ 0) × (place_of (Overfull 5) ≡ 5)
+  pub numbers : (number_of (Ok 11) ≡ 0) × (number_of (Err BadTerms) ≡ 10) × (number_of (Err BadRows) ≡ 11) × (number_of (Err BadLength) ≡ 2) × (number_of (Err (Overfull 5)) ≡ 14)
+  pub clocks : (clocks_of (Ok 11) ≡ 11) × (clocks_of (Err BadTerms) ≡ 0) × (clocks_of (Err BadRows) ≡ 0) × (clocks_of (Err BadLength) ≡ 0) × (clocks_of (Err (Overfull 5)) ≡ 0)
+  pub places : (place_of (Ok 11) ≡ 0) × (place_of (Err BadTerms) ≡ 0) × (place_of (Err BadRows) ≡ 0) × (place_of (Err BadLength) ≡ 0) × (place_of (Err (Overfull 5)) ≡ 5)
 
 pub told : Told
 told = record { numbers = (refl, refl, refl, refl, refl); clocks = (refl, refl, refl, refl, refl); places = (refl, refl, refl, refl, refl) }

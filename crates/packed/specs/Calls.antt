@@ -1,37 +1,36 @@
 -- The public calls as their callers see them: one answer, and one content of every lent word, for all inputs (01, "Refusal numbers":
 -- "Packed run: 10, 11, 2; a refused run writes no answer and no list word, and reports 0 clocks and place 0"; 02, Ask 6: "14, after 2,
 -- naming the lowest such row, with nothing written"). Assumes nothing.
-use Rattle.std.specs.Prelude.{ℕ, zero, suc, ◌+◌, ◌*◌, ◌≡◌, Bool, true, false, ◌&&◌, List, leb, eqb, length, get_or, ℤ, pos, negsuc}
+use Rattle.std.specs.Prelude.{ℕ, zero, suc, ◌+◌, ◌*◌, ◌≡◌, Bool, true, false, ◌&&◌, List, leb, eqb, length, get_or, ℤ, pos, negsuc, Option, None, Some, Result, Ok, Err}
 use Rattle.std.proofs.Common.{◌∙◌, sym}
 use Rattle.lent.specs.Refusing.{unless, leaves}
-use Rattle.column.specs.declared.refusals.Found.{Found}
-use Rattle.column.specs.declared.refusals.Found.TheVariants.{Nothing, At}
 use Rattle.column.specs.Refusals.{lowest}
-use Rattle.packed.specs.declared.Run.{Run}
-use Rattle.packed.specs.declared.Run.TheVariants.{Ran, BadTerms, BadRows, BadLength, Overfull}
+use Rattle.packed.specs.declared.Refusal.{Refusal}
+use Rattle.packed.specs.declared.Refusal.TheVariants.{BadTerms, BadRows, BadLength, Overfull}
 use Rattle.packed.specs.Packed.{most_terms, most_rows, Batch, run_clocks, run_list, read_answers, plain_answers}
+
+-- what a run answers: the clocks that it stepped, or why it is refused
+abbrev pub Run : Type 0
+Run = Result ℕ Refusal
 
 -- the number of each answer, 01's and 14 of 02, Ask 6; its clocks; and its place, which is a row for 14
 abbrev pub number_of : Run → ℕ
-number_of (Ran clocks) = 0
-number_of BadTerms = 10
-number_of BadRows = 11
-number_of BadLength = 2
-number_of (Overfull row) = 14
+number_of (Ok clocks) = 0
+number_of (Err BadTerms) = 10
+number_of (Err BadRows) = 11
+number_of (Err BadLength) = 2
+number_of (Err (Overfull row)) = 14
 
 abbrev pub clocks_of : Run → ℕ
-clocks_of (Ran clocks) = clocks
-clocks_of BadTerms = 0
-clocks_of BadRows = 0
-clocks_of BadLength = 0
-clocks_of (Overfull row) = 0
+clocks_of (Ok clocks) = clocks
+clocks_of (Err refusal) = 0
 
 abbrev pub place_of : Run → ℕ
-place_of (Ran clocks) = 0
-place_of BadTerms = 0
-place_of BadRows = 0
-place_of BadLength = 0
-place_of (Overfull row) = row
+place_of (Ok clocks) = 0
+place_of (Err BadTerms) = 0
+place_of (Err BadRows) = 0
+place_of (Err BadLength) = 0
+place_of (Err (Overfull row)) = row
 
 -- 10 (02, Ask 6): "when terms are not 1 to 8"
 abbrev pub terms_fit : (terms : ℕ) → Bool
@@ -64,21 +63,21 @@ abbrev pub overfull : Batch → (j : ℕ) → Bool
 overfull g j = eqb g.terms most_terms && (all_lowest g.d (j * g.terms) g.terms && all_lowest g.b (j * g.terms) g.terms)
 
 -- "naming the lowest such row"
-abbrev pub refuse_row : Found → Run → Run
-refuse_row Nothing next = next
-refuse_row (At j) next = Overfull j
+abbrev pub refuse_row : {A : Type 0} → Option ℕ → Result A Refusal → Result A Refusal
+refuse_row None next = next
+refuse_row (Some j) next = Err (Overfull j)
 
 -- "Packed run: 10, 11, 2"; list is whether the list has its length, "which number 2 covers too"
-unfoldable pub sized : Batch → (answers : ℕ) → (list : Bool) → Run → Run
+unfoldable pub sized : {A : Type 0} → Batch → (answers : ℕ) → (list : Bool) → Result A Refusal → Result A Refusal
 sized g answers list next =
-    unless (terms_fit g.terms) BadTerms
-    (unless (rows_fit g.rows) BadRows
-    (unless (lengths_fit g answers && list) BadLength
+    unless (terms_fit g.terms) (Err BadTerms)
+    (unless (rows_fit g.rows) (Err BadRows)
+    (unless (lengths_fit g answers && list) (Err BadLength)
     next))
 
 -- "14, after 2"
 unfoldable pub checked : Batch → (answers : ℕ) → (list : Bool) → (clocks : ℕ) → Run
-checked g answers list clocks = sized g answers list (refuse_row (lowest (overfull g) g.rows) (Ran clocks))
+checked g answers list clocks = sized g answers list (refuse_row (lowest (overfull g) g.rows) (Ok clocks))
 
 -- `packed_clocked`, of the lent answers os and the lent list ws: "it returns the clocks it stepped, one for each word"
 unfoldable pub clocked_run : Batch → (os : List ℤ) → (ws : List ℕ) → Run

@@ -1,4 +1,4 @@
-// The lent answers, two a row.
+// The lent answers, two a row. They stay flat and are written by place, as C lends them.
 ghost use Rattle.std.specs.Prelude.{◌≡◌, ◌+◌, ◌*◌, ◌<◌, length};
 ghost use Rattle.packed.specs.Parts.{with_row};
 

@@ -1,14 +1,14 @@
 // What the column is set to, and what it is fed in a clock.
-ghost use Rattle.std.specs.Prelude.{◌≡◌, ◌*◌, ◌<◌, length};
-ghost use Rattle.records.specs.Records.{port_words};
-ghost use Rattle.packed.specs.Packed.{most_terms, batch, setting, ports_for, run_attributes};
-ghost use Rattle.packed.specs.Parts.{Ready, SliceFed, ColumnFed};
+ghost use Rattle.std.specs.Prelude.{◌≡◌, ◌<◌, length};
+ghost use Rattle.std.specs.List.{flat_map};
+ghost use Rattle.packed.specs.Packed.{setting, ports_for};
+ghost use Rattle.packed.specs.Parts.{SliceFed, ColumnFed};
 
-use crate::checks::MOST_TERMS;
+use crate::batch::Checked;
 use column::{Attributes, Ports};
 
 // The setting of each slice.
-fn slice_setting() -> Attributes
+pub fn slice_setting() -> Attributes
     ensures { result ≡ setting }
 {
     Attributes {
@@ -16,24 +16,13 @@ fn slice_setting() -> Attributes
         breg: 2,
         acascreg: 1,
         bcascreg: 2,
-        a_input: 0,
-        b_input: 0,
-        creg: 0,
         dreg: 1,
         adreg: 1,
         mreg: 1,
         preg: 1,
-        opmodereg: 0,
-        alumodereg: 0,
-        inmodereg: 0,
-        carryinreg: 0,
-        carryinselreg: 0,
         use_mult: 1,
         amultsel: 1,
-        rnd: 0,
-        pattern: 0,
-        mask: 0,
-        use_simd: 0,
+        ..Attributes::cleared()
     }
 }
 
@@ -44,63 +33,38 @@ fn ports_for(a: i8, d: i8, b: i8) -> Ports
     Ports {
         a: word::word_of(a as i64 * 0x4_0000, 30),
         b: word::word_of(b as i64, 18),
-        c: 0,
         d: word::word_of(d as i64, 27),
         opmode: 21,
-        alumode: 0,
         inmode: 4,
-        carryinsel: 0,
-        carryin: 0,
         ce: 8191,
-        rst: 0,
+        ..Ports::cleared()
     }
 }
 
-// The ports of slice k in clock t: term k of row t - k, where that row is due.
-fn slice_ports(terms: usize, rows: usize, a: &[i8], d: &[i8], b: &[i8], t: usize, k: usize) -> Ports
-    requires { Ready (batch terms rows a.now d.now b.now) × (k < terms) }
-    ensures { SliceFed (batch terms rows a.now d.now b.now) t k result }
-{
-    if t < k {
-        return ports_for(0, 0, 0);
+impl Checked<'_> {
+    // The ports of slice k in clock t: term k of row t - k, where that row is due.
+    fn slice_ports(&self, t: usize, k: usize) -> Ports
+        requires { k < self.now.terms }
+        ensures { SliceFed self.now t k result }
+    {
+        if t < k {
+            return ports_for(0, 0, 0);
+        }
+        let j = t - k;
+        if self.rows <= j {
+            return ports_for(0, 0, 0);
+        }
+        let i = j * self.terms + k;
+        ports_for(self.a[i], self.d[i], self.b[i])
     }
-    let j = t - k;
-    if rows <= j {
-        return ports_for(0, 0, 0);
-    }
-    let i = j * terms + k;
-    ports_for(a[i], d[i], b[i])
-}
 
-// The attributes of as many slices as a run can have.
-pub fn all_attributes() -> [u64; Attributes::WORDS * MOST_TERMS]
-    ensures { result ≡ run_attributes most_terms }
-{
-    let words = slice_setting().words();
-    let mut all = [0; Attributes::WORDS * MOST_TERMS];
-    for k in 0..MOST_TERMS {
-        let i = Attributes::WORDS * k;
-        lent::store(&mut all[i..i + Attributes::WORDS], &words);
-    }
-    all
-}
-
-// The ports of every slice in clock t.
-pub fn fill_ports(
-    terms: usize,
-    rows: usize,
-    a: &[i8],
-    d: &[i8],
-    b: &[i8],
-    t: usize,
-    ports: &mut [u64],
-)
-    requires { Ready (batch terms rows a.now d.now b.now) × (length ports.old ≡ port_words * terms) }
-    ensures { ColumnFed (batch terms rows a.now d.now b.now) t ports.new }
-{
-    for k in 0..terms {
-        let words = slice_ports(terms, rows, a, d, b, t, k).words();
-        let i = Ports::WORDS * k;
-        lent::store(&mut ports[i..i + Ports::WORDS], &words);
+    // The ports of every slice in clock t.
+    pub fn fill_ports(&self, t: usize, ports: &mut [[u64; Ports::WORDS]])
+        requires { length ports.old ≡ self.now.terms }
+        ensures { ColumnFed self.now t (flat_map (λ x. x) ports.new) }
+    {
+        for (k, words) in ports.iter_mut().enumerate() {
+            *words = self.slice_ports(t, k).words();
+        }
     }
 }

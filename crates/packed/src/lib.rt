@@ -7,18 +7,18 @@ ghost use Rattle.packed.specs.Packed.{batch};
 ghost use Rattle.packed.specs.Calls.{number_of, clocks_of, place_of, ClockedDone, PlainDone};
 
 mod answers;
+mod batch;
 mod checks;
 mod clocked;
 mod feed;
 mod overfull;
 mod plain;
 
-use checks::ListLength;
+use batch::Checked;
 
-// What a run answers: `Ran` has the clocks that it stepped, `Overfull` the lowest row whose low sum does not fit.
-#[derive(Clone, Copy)]
-pub enum Run {
-    Ran(u64),
+// Why a run is refused: `Overfull` has the lowest row whose low sum does not fit.
+#[derive(Clone, Copy, Debug, PartialEq, Eq)]
+pub enum Refusal {
     BadTerms,
     BadRows,
     BadLength,
@@ -34,21 +34,15 @@ pub fn packed_clocked(
     b: &[i8],
     answers: &mut [i32],
     list: &mut [u64],
-) -> Run
+) -> Result<u64, Refusal>
     ensures { ClockedDone (batch terms rows a.now d.now b.now) answers.old list.old result answers.new list.new }
 {
-    let length = ListLength::Words(list.len());
-    let answer = checks::run_answer(terms, rows, a, d, b, answers.len(), length);
-    let Run::Ran(_) = answer else {
-        return answer;
-    };
-    let looked = overfull::rows_answer(terms, rows, d, b);
-    let Run::Ran(_) = looked else {
-        return looked;
-    };
-    let clocks = clocked::stepped(terms, rows, a, d, b, list);
-    clocked::read_answers(terms, rows, &list[..], answers);
-    Run::Ran(clocks)
+    checks::run_answer(terms, rows, a, d, b, answers.len(), Some(list.len()))?;
+    overfull::rows_answer(terms, rows, d, b)?;
+    let batch = Checked::new(terms, rows, a, d, b);
+    let clocks = batch.stepped(list);
+    batch.read_answers(&list[..], answers);
+    Ok(clocks)
 }
 
 // The plain run: both sums of each row, worked out directly; no clock is stepped.
@@ -59,61 +53,46 @@ pub fn packed_plain(
     d: &[i8],
     b: &[i8],
     answers: &mut [i32],
-) -> Run
+) -> Result<u64, Refusal>
     ensures { PlainDone (batch terms rows a.now d.now b.now) answers.old result answers.new }
 {
-    let answer = checks::run_answer(terms, rows, a, d, b, answers.len(), ListLength::NoList);
-    let Run::Ran(_) = answer else {
-        return answer;
-    };
+    checks::run_answer(terms, rows, a, d, b, answers.len(), None)?;
     // Two ways to the work, so that the compiler knows on each how few terms there are.
     if terms < checks::MOST_TERMS {
-        plain::sums(terms, rows, a, d, b, answers);
-        return Run::Ran(0);
+        Checked::new(terms, rows, a, d, b).sums(answers);
+        return Ok(0);
     }
-    let looked = overfull::rows_answer(terms, rows, d, b);
-    let Run::Ran(_) = looked else {
-        return looked;
-    };
-    plain::sums(terms, rows, a, d, b, answers);
-    Run::Ran(0)
+    overfull::rows_answer(terms, rows, d, b)?;
+    Checked::new(terms, rows, a, d, b).sums(answers);
+    Ok(0)
 }
 
-// The number of an answer.
-pub fn number(run: Run) -> u64
+// The number of an answer. It is 01's, which C is told. No `From`: `number_once` and its callers are of this call.
+pub fn number(run: Result<u64, Refusal>) -> u64
     ensures { result ≡ number_of run }
 {
     match run {
-        Run::Ran(_) => 0,
-        Run::BadTerms => 10,
-        Run::BadRows => 11,
-        Run::BadLength => 2,
-        Run::Overfull(_) => 14,
+        Ok(_) => 0,
+        Err(Refusal::BadTerms) => 10,
+        Err(Refusal::BadRows) => 11,
+        Err(Refusal::BadLength) => 2,
+        Err(Refusal::Overfull(_)) => 14,
     }
 }
 
-// The clocks that an answer reports.
-pub fn clocks(run: Run) -> u64
+// The clocks that an answer reports: none where it is refused.
+pub fn clocks(run: Result<u64, Refusal>) -> u64
     ensures { result ≡ clocks_of run }
 {
-    match run {
-        Run::Ran(n) => n,
-        Run::BadTerms => 0,
-        Run::BadRows => 0,
-        Run::BadLength => 0,
-        Run::Overfull(_) => 0,
-    }
+    run.unwrap_or(0)
 }
 
 // The place that an answer reports: the row, for number 14.
-pub fn place(run: Run) -> usize
+pub fn place(run: Result<u64, Refusal>) -> usize
     ensures { result ≡ place_of run }
 {
     match run {
-        Run::Ran(_) => 0,
-        Run::BadTerms => 0,
-        Run::BadRows => 0,
-        Run::BadLength => 0,
-        Run::Overfull(row) => row,
+        Err(Refusal::Overfull(row)) => row,
+        _ => 0,
     }
 }

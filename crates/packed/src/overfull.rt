@@ -1,44 +1,56 @@
 // Number 14: a row of eight terms with all d and all b -128, whose low sum, 131072, is one more than 18 bits hold.
-ghost use Rattle.std.specs.Prelude.{◌≡◌, [], ◌+◌, ◌≤◌, length};
-ghost use Rattle.packed.specs.Packed.{most_terms, batch};
-ghost use Rattle.packed.specs.Calls.{all_lowest};
+ghost use Rattle.std.specs.Prelude.{◌≡◌, [], ◌+◌, ◌*◌, ◌≤◌, length};
+ghost use Rattle.column.specs.Refusals.{lowest};
+ghost use Rattle.packed.specs.Packed.{most_terms, most_rows, batch};
+ghost use Rattle.packed.specs.Calls.{is_lowest, all_lowest, overfull};
 ghost use Rattle.packed.specs.Parts.{Looked};
 
-use crate::Run;
+use crate::Refusal;
 use crate::checks::{MOST_ROWS, MOST_TERMS};
 
-// The eight numbers from place s on are all -128. With no way out before the eighth the compiler makes it one comparison.
+fn is_lowest(v: i8) -> bool
+    ensures { result ≡ is_lowest v }
+{
+    v == -128
+}
+
+// The eight numbers from place s on are all -128. With no way out before the eighth the compiler makes it one comparison. A
+// row is told by its place, as the definition tells it.
 fn all_lowest(x: &[i8], s: usize) -> bool
     requires { s + most_terms ≤ length x.now }
     ensures { result ≡ all_lowest x.now s most_terms }
 {
-    let mut all = true;
-    for k in 0..MOST_TERMS {
-        all = all & (x[s + k] == -128);
-    }
-    all
+    x[s..s + MOST_TERMS]
+        .iter()
+        .fold(true, |all, &v| all & is_lowest(v))
 }
 
-// `Ran(0)`, or the lowest overfull row. Rows of fewer terms always fit. It asks nothing of its caller: rows that are not all
+// The lowest row of eight terms that is overfull.
+fn first_overfull(rows: usize, d: &[i8], b: &[i8]) -> Option<usize>
+    requires { (rows ≤ most_rows) × (length d.now ≡ rows * most_terms) × (length b.now ≡ rows * most_terms) }
+    ensures { result ≡ lowest (overfull (batch most_terms rows [] d.now b.now)) rows }
+{
+    (0..rows).find(|&j| all_lowest(d, j * MOST_TERMS) && all_lowest(b, j * MOST_TERMS))
+}
+
+// The lowest overfull row is refused. Rows of fewer terms always fit. It asks nothing of its caller: rows that are not all
 // there are not looked at.
-pub fn rows_answer(terms: usize, rows: usize, d: &[i8], b: &[i8]) -> Run
+#[tactic(auto, using(crate::proofs::Passing::few_looked))]
+pub fn rows_answer(terms: usize, rows: usize, d: &[i8], b: &[i8]) -> Result<(), Refusal>
     ensures { Looked (batch terms rows [] d.now b.now) result }
 {
     if terms < MOST_TERMS {
-        return Run::Ran(0);
+        return Ok(());
     }
     if rows > MOST_ROWS {
-        return Run::Ran(0);
+        return Ok(());
     }
     let area = rows * MOST_TERMS;
     if (d.len() != area) | (b.len() != area) {
-        return Run::Ran(0);
+        return Ok(());
     }
-    for j in 0..rows {
-        let s = j * MOST_TERMS;
-        if all_lowest(d, s) && all_lowest(b, s) {
-            return Run::Overfull(j);
-        }
+    match first_overfull(rows, d, b) {
+        Some(j) => Err(Refusal::Overfull(j)),
+        None => Ok(()),
     }
-    Run::Ran(0)
 }

@@ -1,9 +1,10 @@
 // Both sums of each row, worked out directly.
-ghost use Rattle.std.specs.Prelude.{◌≡◌, ◌+◌, ◌*◌, ◌≤◌, ◌<◌, ◌*ℤ◌, length};
-ghost use Rattle.packed.specs.Packed.{most_terms, batch, dot, plain_answers};
-ghost use Rattle.packed.specs.Parts.{Ready, with_row};
+ghost use Rattle.std.specs.Prelude.{◌≡◌, ◌+◌, ◌*◌, ◌<◌, ◌*ℤ◌, length};
+ghost use Rattle.packed.specs.Packed.{high_dot, low_dot, plain_answers};
+ghost use Rattle.packed.specs.Parts.{with_row};
 
 use crate::answers::put_row;
+use crate::batch::Checked;
 
 // The product of two bytes.
 fn product(x: i8, y: i8) -> i32
@@ -12,27 +13,30 @@ fn product(x: i8, y: i8) -> i32
     x as i32 * y as i32
 }
 
-// Row j's two answers: the sums of n products from place s on, both in one pass, since they share b.
-fn put_sums(a: &[i8], d: &[i8], b: &[i8], s: usize, n: usize, answers: &mut [i32], j: usize)
-    requires { (n ≤ most_terms) × (s + n ≤ length a.now) × (s + n ≤ length d.now) × (s + n ≤ length b.now) × (2 * j + 1 < length answers.old) }
-    ensures { answers.new ≡ with_row answers.old j (dot a.now b.now s n) (dot d.now b.now s n) }
-{
-    let mut high: i32 = 0;
-    let mut low: i32 = 0;
-    for k in 0..n {
-        let i = s + k;
-        high = high + product(a[i], b[i]);
-        low = low + product(d[i], b[i]);
+impl Checked<'_> {
+    // Row j's two answers: the sums of its products, both in one pass, since they share b.
+    fn put_sums(&self, j: usize, answers: &mut [i32])
+        requires { (j < self.now.rows) × (2 * j + 1 < length answers.old) }
+        ensures { answers.new ≡ with_row answers.old j (high_dot self.now j) (low_dot self.now j) }
+    {
+        let s = j * self.terms;
+        let e = s + self.terms;
+        let mut high = 0;
+        let mut low = 0;
+        for ((&a, &d), &b) in self.a[s..e].iter().zip(&self.d[s..e]).zip(&self.b[s..e]) {
+            high += product(a, b);
+            low += product(d, b);
+        }
+        put_row(answers, j, high, low);
     }
-    put_row(answers, j, high, low);
-}
 
-// Both sums of every row: high, then low.
-pub fn sums(terms: usize, rows: usize, a: &[i8], d: &[i8], b: &[i8], answers: &mut [i32])
-    requires { Ready (batch terms rows a.now d.now b.now) × (length answers.old ≡ 2 * rows) }
-    ensures { answers.new ≡ plain_answers (batch terms rows a.now d.now b.now) }
-{
-    for j in 0..rows {
-        put_sums(a, d, b, j * terms, terms, answers, j);
+    // Both sums of every row: high, then low.
+    pub fn sums(&self, answers: &mut [i32])
+        requires { length answers.old ≡ 2 * self.now.rows }
+        ensures { answers.new ≡ plain_answers self.now }
+    {
+        for j in 0..self.rows {
+            self.put_sums(j, answers);
+        }
     }
 }

@@ -1,26 +1,17 @@
 -- The player's numbers as lent words. Assumes nothing.
-use mathlib.Core.Path.{◌≡◌, refl, ap, ◌∙◌, subst⁻¹}
-use mathlib.Core.List.{List, [], ◌∷◌}
+use mathlib.Core.Path.{◌≡◌, refl, ap, ◌∙◌}
+use mathlib.Core.List.{List}
 use Prim.Native.Nat.{ℕ}
 use native.Mathlib.Omega.{arith}
-use lib.ListN.{length, set}
+use lib.ListN.{length}
 use Rattle.lent.specs.Words.{enough, stored}
 use Rattle.lent.proofs.Laws.{enough_all, stored_all}
-use Rattle.records.proofs.Putting.{spread}
 use Rattle.player.specs.declared.Phase.{Phase}
 use Rattle.player.specs.declared.Phase.TheVariants.{Head, Settings, Clocks, Stopped}
 use Rattle.player.specs.declared.Shows.{Shows}
 use Rattle.player.specs.declared.Shows.TheVariants.{Outputs, FirstMatch}
 use Rattle.player.specs.declared.Player.{Player}
 use Rattle.player.specs.Numbers.{phase_number, phase_of, shows_number, watched, shows_of, player_numbers, player_of, player_words}
-
--- a word for each number, put from the first to the last
-abbrev put_all : (ws : List ℕ) → (a b c d e f g h : ℕ) → List ℕ
-put_all ws a b c d e f g h = set (set (set (set (set (set (set (set ws 0 a) 1 b) 2 c) 3 d) 4 e) 5 f) 6 g) 7 h
-
-pub all_put : (ws : List ℕ) → length ws ≡ player_numbers → (a b c d e f g h : ℕ) → put_all ws a b c d e f g h ≡ a ∷ b ∷ c ∷ d ∷ e ∷ f ∷ g ∷ h ∷ []
-all_put ws l a b c d e f g h =
-    subst⁻¹ (λ xs. put_all xs a b c d e f g h ≡ a ∷ b ∷ c ∷ d ∷ e ∷ f ∷ g ∷ h ∷ []) (spread player_numbers ws l) refl
 
 phase_back : (f : Phase) → phase_of (phase_number f) ≡ f
 phase_back Head = refl

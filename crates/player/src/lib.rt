@@ -10,7 +10,7 @@ ghost use Rattle.player.specs.Fitting.{numbers_fit, fits};
 use records::{Attributes, Outputs, Ports, Registers};
 
 // Slices in a column, at most.
-pub const MOST_SLICES: usize = 24;
+pub use records::MOST_SLICES;
 
 // How many words and bytes a player is lent: its numbers, the words of 24 slices, and the bytes of a line.
 pub const NUMBERS: usize = 8;
@@ -23,11 +23,12 @@ pub const PORTS: usize = Ports::WORDS * MOST_SLICES;
 
 pub const OUTPUTS: usize = Outputs::WORDS * MOST_SLICES;
 
-pub const LINE: usize = 512;
+pub const LINE: usize = text::MOST_BYTES;
 
 // The kind of line that is due: `N`, `A` or `P`; none after a refusal or a match.
-#[derive(Clone, Copy)]
+#[derive(Clone, Copy, Default)]
 pub enum Phase {
+    #[default]
     Head,
     Settings,
     Clocks,
@@ -35,15 +36,17 @@ pub enum Phase {
 }
 
 // What is shown of a clock: every slice's outputs; or the first in which a chosen slice shows PATTERNDETECT, and nothing of the others.
-#[derive(Clone, Copy)]
+// No `Option`, which would be no plainer: its `None` would mean that everything is shown.
+#[derive(Clone, Copy, Default)]
 pub enum Shows {
+    #[default]
     Outputs,
     FirstMatch(usize),
 }
 
 // The slices, the lines that are given of a group of one a slice, the clocks run, the lines read, the bytes of the line so far, and what is
 // shown.
-#[derive(Clone, Copy)]
+#[derive(Clone, Copy, Default)]
 pub struct Player {
     pub phase: Phase,
     pub count: usize,
@@ -57,87 +60,60 @@ pub struct Player {
 pub fn is_working(phase: Phase) -> bool
     ensures { result ≡ working phase }
 {
-    match phase {
-        Phase::Head => true,
-        Phase::Settings => true,
-        Phase::Clocks => true,
-        Phase::Stopped => false,
-    }
+    !matches!(phase, Phase::Stopped)
 }
 
-fn phase_of(number: u64) -> Phase
-    ensures { result ≡ phase_of number }
-{
-    match number {
-        0 => Phase::Head,
-        1 => Phase::Settings,
-        2 => Phase::Clocks,
-        _ => Phase::Stopped,
-    }
-}
+impl From<u64> for Phase {
+    ghost from_gives = { λ number phase. phase ≡ phase_of number };
 
-fn phase_number(phase: Phase) -> u64
-    ensures { result ≡ phase_number phase }
-{
-    match phase {
-        Phase::Head => 0,
-        Phase::Settings => 1,
-        Phase::Clocks => 2,
-        Phase::Stopped => 3,
+    fn from(number: u64) -> Phase {
+        match number {
+            0 => Phase::Head,
+            1 => Phase::Settings,
+            2 => Phase::Clocks,
+            _ => Phase::Stopped,
+        }
     }
 }
 
 // What is shown is two words: which, and the slice.
-fn shows_number(shows: Shows) -> u64
-    ensures { result ≡ shows_number shows }
-{
-    match shows {
-        Shows::Outputs => 0,
-        Shows::FirstMatch(_) => 1,
+impl From<(u64, u64)> for Shows {
+    ghost from_gives = { λ words shows. shows ≡ shows_of words.0 words.1 };
+
+    fn from((number, slice): (u64, u64)) -> Shows {
+        match number {
+            1 => Shows::FirstMatch(slice as usize),
+            _ => Shows::Outputs,
+        }
     }
 }
 
-fn watched(shows: Shows) -> usize
-    ensures { result ≡ watched shows }
-{
-    match shows {
-        Shows::Outputs => 0,
-        Shows::FirstMatch(slice) => slice,
-    }
-}
+impl From<Shows> for (u64, u64) {
+    ghost from_gives = { λ shows words. (words.0 ≡ shows_number shows) × (words.1 ≡ watched shows) };
 
-fn shows_of(number: u64, slice: usize) -> Shows
-    ensures { result ≡ shows_of number slice }
-{
-    if number == 1 {
-        return Shows::FirstMatch(slice);
+    fn from(shows: Shows) -> (u64, u64) {
+        match shows {
+            Shows::Outputs => (0, 0),
+            Shows::FirstMatch(slice) => (1, slice as u64),
+        }
     }
-    Shows::Outputs
 }
 
 // The player whose numbers are lent; of too few words the one that has read nothing.
 pub fn read(numbers: &[u64]) -> Player
     ensures { result ≡ player_of (enough player_numbers numbers.now) }
 {
-    if numbers.len() < NUMBERS {
-        return Player {
-            phase: Phase::Head,
-            count: 0,
-            given: 0,
-            clocks: 0,
-            lines: 0,
-            held: 0,
-            shows: Shows::Outputs,
-        };
-    }
+    let [phase, count, given, clocks, lines, held, which, slice, ..] = numbers else {
+        return Player::default();
+    };
     Player {
-        phase: phase_of(numbers[0]),
-        count: numbers[1] as usize,
-        given: numbers[2] as usize,
-        clocks: numbers[3],
-        lines: numbers[4],
-        held: numbers[5] as usize,
-        shows: shows_of(numbers[6], numbers[7] as usize),
+        phase: Phase::from(*phase),
+        count: *count as usize,
+        given: *given as usize,
+        clocks: *clocks,
+        lines: *lines,
+        held: *held as usize,
+        shows: Shows::from((*which, *slice)),
     }
 }
 
@@ -145,19 +121,18 @@ pub fn read(numbers: &[u64]) -> Player
 pub fn store(player: Player, numbers: &mut [u64])
     ensures { numbers.new ≡ stored numbers.old (player_words player) }
 {
-    if numbers.len() != NUMBERS {
-        return;
-    }
-    let phase = player.phase;
-    numbers[0] = phase_number(phase);
-    numbers[1] = player.count as u64;
-    numbers[2] = player.given as u64;
-    numbers[3] = player.clocks;
-    numbers[4] = player.lines;
-    numbers[5] = player.held as u64;
-    let shows = player.shows;
-    numbers[6] = shows_number(shows);
-    numbers[7] = watched(shows) as u64;
+    let (which, slice) = player.shows.into();
+    let words = [
+        player.phase as u64,
+        player.count as u64,
+        player.given as u64,
+        player.clocks,
+        player.lines,
+        player.held as u64,
+        which,
+        slice,
+    ];
+    lent::store(numbers, &words);
 }
 
 // The counts are in range, with room for `n` lines and clocks more.
@@ -173,6 +148,8 @@ fn numbers_fit(n: usize, player: Player) -> bool
 }
 
 // What is lent is a player's, by its numbers and by how many words and bytes there are, and a piece of `n` bytes can be played.
+// The five lengths are no struct: the clause and `fits_once` are of this call.
+#[tactic(auto, unfolding(crate::specs::Fitting::fits))]
 pub fn fits(
     n: usize,
     numbers: &[u64],

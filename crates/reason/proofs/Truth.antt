@@ -4,6 +4,7 @@ use Prim.Native.Nat.{ℕ, zero, suc, ◌+◌, ◌-◌, ◌%◌, ◌^◌, ◌<◌
 use mathlib.Core.Path.{◌≡◌, refl, sym, ap}
 use mathlib.Core.Bool.{Bool, true, false, cond}
 use mathlib.Core.List.{List, [], ◌∷◌}
+use Rattle.std.specs.Prelude.{Option, Some, None}
 use lib.Dec.{eqb, ltb}
 use lib.ListN.{get_or, get_or-map}
 use lib.Bits.{bit_and, bit_or, bit_xor}
@@ -20,13 +21,13 @@ use Rattle.records.specs.declared.Ports.{Ports}
 use Rattle.slice.specs.declared.inputs.Cascade.{Cascade}
 use Rattle.slice.specs.declared.inputs.Controls.{Controls}
 use Rattle.slice.specs.declared.inputs.Paths.{Paths}
-use Rattle.slice.specs.declared.operands.Operands.{Operands}
+use Rattle.unit.specs.declared.Operands.{Operands}
 use Rattle.slice.specs.Slice.{controls_of, selects_of, paths_of, product_of, operands_of, slice_operands, result_of, settled_of, slice_settled, outputs_of_settled, slice_outputs, edge, next_of, slice_next}
 use Rattle.reason.specs.declared.places.Place.TheVariants.{Zero, M, P, AB, Ones, C, Pcin, PcinShifted, PShifted, Rnd, Carryin, PcinBit47, NotPcinBit47, PBit47, NotPBit47, CarryBelow}
 use Rattle.reason.specs.declared.rules.Rule.{Rule}
-use Rattle.reason.specs.declared.rules.Rule.TheVariants.{NoRule, Sum, SumNotZ, NotSum, Difference, Xor, Xnor, And, Or, AndNotZ, OrNotZ, Nand, Nor, NotXOrZ, NotXAndZ}
+use Rattle.reason.specs.declared.rules.Rule.TheVariants.{Sum, SumNotZ, NotSum, Difference, Xor, Xnor, And, Or, AndNotZ, OrNotZ, Nand, Nor, NotXOrZ, NotXAndZ}
 use Rattle.reason.specs.declared.Reason.{Reason}
-use Rattle.reason.specs.Reason.{places_of, held_at, value_at, held_values, rule_of, in_lanes, applied, reason_of}
+use Rattle.reason.specs.Reason.{places_of, held_at, value_at, held_values, rule_of, in_lanes, made_by, applied, reason_of}
 
 -- ---- the places
 
@@ -73,11 +74,11 @@ places_true a r p x =
 -- ---- the rule
 
 module _ (simd : ℕ) (o : Operands) where
-  abbrev logic_rules : Bool → List Rule
+  abbrev logic_rules : Bool → List (Option Rule)
   logic_rules b =
-      cond b Xor Xnor ∷ cond b Xnor Xor ∷ cond b Xnor Xor ∷ cond b Xor Xnor
-      ∷ NoRule ∷ NoRule ∷ NoRule ∷ NoRule
-      ∷ cond b And Or ∷ cond b AndNotZ OrNotZ ∷ cond b Nand Nor ∷ cond b NotXOrZ NotXAndZ
+      Some (cond b Xor Xnor) ∷ Some (cond b Xnor Xor) ∷ Some (cond b Xnor Xor) ∷ Some (cond b Xor Xnor)
+      ∷ None ∷ None ∷ None ∷ None
+      ∷ Some (cond b And Or) ∷ Some (cond b AndNotZ OrNotZ) ∷ Some (cond b Nand Nor) ∷ Some (cond b NotXOrZ NotXAndZ)
       ∷ []
 
   abbrev rows_by : Bool → List ℕ
@@ -96,14 +97,14 @@ module _ (simd : ℕ) (o : Operands) where
       ∷ []
 
   -- a logic mode's rule is its row
-  logic_true : (b : Bool) (m : ℕ) → applied (get_or (logic_rules b) m NoRule) simd o ≡ get_or (rows_by b) m 0
-  unfolding applied
-  logic_true true m = sym (get_or-map (λ rule. applied rule simd o) (logic_rules true) m NoRule)
-  logic_true false m = sym (get_or-map (λ rule. applied rule simd o) (logic_rules false) m NoRule)
+  logic_true : (b : Bool) (m : ℕ) → applied (get_or (logic_rules b) m None) simd o ≡ get_or (rows_by b) m 0
+  unfolding made_by
+  logic_true true m = sym (get_or-map (λ rule. applied rule simd o) (logic_rules true) m None)
+  logic_true false m = sym (get_or-map (λ rule. applied rule simd o) (logic_rules false) m None)
 
   -- the rule of a mode gives what the unit gives in that mode, whatever the mode
   pub rule_true : (mode : ℕ) → applied (rule_of mode o.y) simd o ≡ result_of simd mode o
-  unfolding applied rule_of result_of split_result unit_result logic_rows
+  unfolding made_by rule_of result_of split_result unit_result logic_rows
   rule_true zero = refl
   rule_true (suc zero) = refl
   rule_true (suc (suc zero)) = refl
@@ -125,23 +126,23 @@ module _ (simd : ℕ) (o : Operands) where
         ≡ arithmetic (lane_width simd) mode (lane o.w) (lane o.x) (lane o.y) (lane o.z) carry
     by_mode mode = lane_of_lanes (lane_width simd) (lane_count simd) i mode o.w o.x o.y o.z o.cin some
 
-    pub sum_in_lane : lane (applied Sum simd o) ≡ word (lane_width simd) (pos (lane o.z + lane o.w + lane o.x + lane o.y + carry))
-    unfolding applied arithmetic
+    pub sum_in_lane : lane (applied (Some Sum) simd o) ≡ word (lane_width simd) (pos (lane o.z + lane o.w + lane o.x + lane o.y + carry))
+    unfolding made_by arithmetic
     sum_in_lane = by_mode 0
 
-    pub sum_not_z_in_lane : lane (applied SumNotZ simd o)
+    pub sum_not_z_in_lane : lane (applied (Some SumNotZ) simd o)
         ≡ word (lane_width simd) ((pos (ones (lane_width simd)) -ℤ pos (lane o.z)) +ℤ pos (lane o.w + lane o.x + lane o.y + carry))
-    unfolding applied arithmetic
+    unfolding made_by arithmetic
     sum_not_z_in_lane = by_mode 1
 
-    pub not_sum_in_lane : lane (applied NotSum simd o)
+    pub not_sum_in_lane : lane (applied (Some NotSum) simd o)
         ≡ word (lane_width simd) (pos (ones (lane_width simd)) -ℤ pos (lane o.z + lane o.w + lane o.x + lane o.y + carry))
-    unfolding applied arithmetic
+    unfolding made_by arithmetic
     not_sum_in_lane = by_mode 2
 
-    pub difference_in_lane : lane (applied Difference simd o)
+    pub difference_in_lane : lane (applied (Some Difference) simd o)
         ≡ word (lane_width simd) (pos (lane o.z) -ℤ pos (lane o.w + lane o.x + lane o.y + carry))
-    unfolding applied arithmetic
+    unfolding made_by arithmetic
     difference_in_lane = by_mode 3
 
 -- ---- the result

@@ -1,7 +1,7 @@
 -- Why a slice's P is what it is (02, Ask 3): the settled operands, the place that each was selected from, the rule used, and the unit's
 -- result. The places are a second reading of the selects of 01, "One clock", in its order. Selects and modes that are refused give 0.
 -- Assumes nothing.
-use Rattle.std.specs.Prelude.{ℕ, ◌-◌, ◌%◌, ◌^◌, cond, List, [], ◌∷◌, ◌++◌, eqb, get_or}
+use Rattle.std.specs.Prelude.{ℕ, ◌-◌, ◌%◌, ◌^◌, cond, List, [], ◌∷◌, ◌++◌, eqb, get_or, Option, Some, None}
 use Rattle.std.specs.Int.Bits.{bit_and, bit_or, bit_xor}
 use Rattle.word.specs.Word.{extend, shifted}
 use Rattle.unit.specs.Choice.{mux, bit}
@@ -12,13 +12,13 @@ use Rattle.records.specs.declared.Ports.{Ports}
 use Rattle.slice.specs.declared.inputs.Cascade.{Cascade}
 use Rattle.slice.specs.declared.inputs.Controls.{Controls}
 use Rattle.slice.specs.declared.inputs.Paths.{Paths}
-use Rattle.slice.specs.declared.operands.Operands.{Operands}
+use Rattle.unit.specs.declared.Operands.{Operands}
 use Rattle.slice.specs.Slice.{controls_of, selects_of, paths_of, product_of, joined, slice_operands, slice_settled}
 use Rattle.reason.specs.declared.places.Place.{Place}
 use Rattle.reason.specs.declared.places.Place.TheVariants.{Zero, M, P, AB, Ones, C, Pcin, PcinShifted, PShifted, Rnd, Carryin, PcinBit47, NotPcinBit47, PBit47, NotPBit47, CarryBelow}
 use Rattle.reason.specs.declared.places.Places.{Places}
 use Rattle.reason.specs.declared.rules.Rule.{Rule}
-use Rattle.reason.specs.declared.rules.Rule.TheVariants.{NoRule, Sum, SumNotZ, NotSum, Difference, Xor, Xnor, And, Or, AndNotZ, OrNotZ, Nand, Nor, NotXOrZ, NotXAndZ}
+use Rattle.reason.specs.declared.rules.Rule.TheVariants.{Sum, SumNotZ, NotSum, Difference, Xor, Xnor, And, Or, AndNotZ, OrNotZ, Nand, Nor, NotXOrZ, NotXAndZ}
 use Rattle.reason.specs.declared.Reason.{Reason}
 
 -- ---- places
@@ -101,45 +101,49 @@ held_values a r s x m places =
 abbrev pub by_y_rule : (y : ℕ) → (zeros ones : Rule) → Rule
 by_y_rule y zeros ones = cond (eqb y 0) zeros ones
 
--- The rule of each mode: arithmetic 0 to 3, then the logic rows, Y 0 and Y all ones
-unfoldable pub rule_of : (mode y : ℕ) → Rule
+-- The rule of each mode: arithmetic 0 to 3, then the logic rows, Y 0 and Y all ones. A mode that is refused has none
+unfoldable pub rule_of : (mode y : ℕ) → Option Rule
 rule_of mode y =
     get_or
-    (Sum ∷ SumNotZ ∷ NotSum ∷ Difference
-    ∷ by_y_rule y Xor Xnor  -- 4
-    ∷ by_y_rule y Xnor Xor  -- 5
-    ∷ by_y_rule y Xnor Xor  -- 6
-    ∷ by_y_rule y Xor Xnor  -- 7
-    ∷ NoRule ∷ NoRule ∷ NoRule ∷ NoRule  -- 8 to 11 are refused
-    ∷ by_y_rule y And Or  -- 12
-    ∷ by_y_rule y AndNotZ OrNotZ  -- 13
-    ∷ by_y_rule y Nand Nor  -- 14
-    ∷ by_y_rule y NotXOrZ NotXAndZ  -- 15
+    (Some Sum ∷ Some SumNotZ ∷ Some NotSum ∷ Some Difference
+    ∷ Some (by_y_rule y Xor Xnor)  -- 4
+    ∷ Some (by_y_rule y Xnor Xor)  -- 5
+    ∷ Some (by_y_rule y Xnor Xor)  -- 6
+    ∷ Some (by_y_rule y Xor Xnor)  -- 7
+    ∷ None ∷ None ∷ None ∷ None  -- 8 to 11 are refused
+    ∷ Some (by_y_rule y And Or)  -- 12
+    ∷ Some (by_y_rule y AndNotZ OrNotZ)  -- 13
+    ∷ Some (by_y_rule y Nand Nor)  -- 14
+    ∷ Some (by_y_rule y NotXOrZ NotXAndZ)  -- 15
     ∷ [])
     mode
-    NoRule
+    None
 
 -- an arithmetic mode on the operands, in USE_SIMD's lanes
 abbrev pub in_lanes : (simd mode : ℕ) → Operands → ℕ
 in_lanes simd mode o = lanes (lane_width simd) (lane_count simd) mode o.w o.x o.y o.z o.cin
 
 -- What a rule makes of the operands: an arithmetic rule in its lanes, a logic rule on the 48 bits of X and Z
-unfoldable pub applied : Rule → (simd : ℕ) → Operands → ℕ
-applied NoRule simd o = 0
-applied Sum simd o = in_lanes simd 0 o  -- Z+W+X+Y+CIN
-applied SumNotZ simd o = in_lanes simd 1 o  -- (2^48−1−Z)+W+X+Y+CIN
-applied NotSum simd o = in_lanes simd 2 o  -- 2^48−1−(Z+W+X+Y+CIN)
-applied Difference simd o = in_lanes simd 3 o  -- Z−(W+X+Y+CIN)
-applied Xor simd o = bit_xor (o.x % 2 ^ 48) (o.z % 2 ^ 48)
-applied Xnor simd o = compl (bit_xor (o.x % 2 ^ 48) (o.z % 2 ^ 48))
-applied And simd o = bit_and (o.x % 2 ^ 48) (o.z % 2 ^ 48)
-applied Or simd o = bit_or (o.x % 2 ^ 48) (o.z % 2 ^ 48)
-applied AndNotZ simd o = bit_and (o.x % 2 ^ 48) (compl (o.z % 2 ^ 48))
-applied OrNotZ simd o = bit_or (o.x % 2 ^ 48) (compl (o.z % 2 ^ 48))
-applied Nand simd o = compl (bit_and (o.x % 2 ^ 48) (o.z % 2 ^ 48))
-applied Nor simd o = compl (bit_or (o.x % 2 ^ 48) (o.z % 2 ^ 48))
-applied NotXOrZ simd o = bit_or (compl (o.x % 2 ^ 48)) (o.z % 2 ^ 48)
-applied NotXAndZ simd o = bit_and (compl (o.x % 2 ^ 48)) (o.z % 2 ^ 48)
+unfoldable pub made_by : Rule → (simd : ℕ) → Operands → ℕ
+made_by Sum simd o = in_lanes simd 0 o  -- Z+W+X+Y+CIN
+made_by SumNotZ simd o = in_lanes simd 1 o  -- (2^48−1−Z)+W+X+Y+CIN
+made_by NotSum simd o = in_lanes simd 2 o  -- 2^48−1−(Z+W+X+Y+CIN)
+made_by Difference simd o = in_lanes simd 3 o  -- Z−(W+X+Y+CIN)
+made_by Xor simd o = bit_xor (o.x % 2 ^ 48) (o.z % 2 ^ 48)
+made_by Xnor simd o = compl (bit_xor (o.x % 2 ^ 48) (o.z % 2 ^ 48))
+made_by And simd o = bit_and (o.x % 2 ^ 48) (o.z % 2 ^ 48)
+made_by Or simd o = bit_or (o.x % 2 ^ 48) (o.z % 2 ^ 48)
+made_by AndNotZ simd o = bit_and (o.x % 2 ^ 48) (compl (o.z % 2 ^ 48))
+made_by OrNotZ simd o = bit_or (o.x % 2 ^ 48) (compl (o.z % 2 ^ 48))
+made_by Nand simd o = compl (bit_and (o.x % 2 ^ 48) (o.z % 2 ^ 48))
+made_by Nor simd o = compl (bit_or (o.x % 2 ^ 48) (o.z % 2 ^ 48))
+made_by NotXOrZ simd o = bit_or (compl (o.x % 2 ^ 48)) (o.z % 2 ^ 48)
+made_by NotXAndZ simd o = bit_and (compl (o.x % 2 ^ 48)) (o.z % 2 ^ 48)
+
+-- What the rule of a slice makes of its operands; 0 where there is none
+abbrev pub applied : Option Rule → (simd : ℕ) → Operands → ℕ
+applied None simd o = 0
+applied (Some rule) simd o = made_by rule simd o
 
 -- ---- the reason
 
@@ -160,7 +164,7 @@ no_reason =
     record {
       values = record { w = 0; x = 0; y = 0; z = 0; cin = 0 };
       places = record { w = Zero; x = Zero; y = Zero; z = Zero; cin = Zero };
-      rule = NoRule;
+      rule = None;
       lanes = 0;
       result = 0;
     }
@@ -185,22 +189,22 @@ place_number PBit47 = 13
 place_number NotPBit47 = 14
 place_number CarryBelow = 15
 
-abbrev pub rule_number : Rule → ℕ
-rule_number NoRule = 0
-rule_number Sum = 1
-rule_number SumNotZ = 2
-rule_number NotSum = 3
-rule_number Difference = 4
-rule_number Xor = 5
-rule_number Xnor = 6
-rule_number And = 7
-rule_number Or = 8
-rule_number AndNotZ = 9
-rule_number OrNotZ = 10
-rule_number Nand = 11
-rule_number Nor = 12
-rule_number NotXOrZ = 13
-rule_number NotXAndZ = 14
+abbrev pub rule_number : Option Rule → ℕ
+rule_number None = 0
+rule_number (Some Sum) = 1
+rule_number (Some SumNotZ) = 2
+rule_number (Some NotSum) = 3
+rule_number (Some Difference) = 4
+rule_number (Some Xor) = 5
+rule_number (Some Xnor) = 6
+rule_number (Some And) = 7
+rule_number (Some Or) = 8
+rule_number (Some AndNotZ) = 9
+rule_number (Some OrNotZ) = 10
+rule_number (Some Nand) = 11
+rule_number (Some Nor) = 12
+rule_number (Some NotXOrZ) = 13
+rule_number (Some NotXAndZ) = 14
 
 -- how many words a reason has
 abbrev pub why_words : ℕ

@@ -1,83 +1,51 @@
 // The places that operands are selected from, and which the selects name.
 ghost use Rattle.std.specs.Prelude.{◌≡◌, [], ◌∷◌};
 ghost use Rattle.reason.specs.declared.places.Place.TheVariants.{Zero};
-ghost use Rattle.reason.specs.Reason.{place_number, named, z_place, cin_place, places_of, held_at, held_values, places_numbers};
-ghost use Rattle.unit.specs.Choice.{bit};
+ghost use Rattle.reason.specs.Reason.{place_number, named, z_place, cin_place, places_of, held_at, held_values};
 
 use records::{Attributes, Registers};
-use slice::{Cascade, Controls, Operands, Paths};
+use slice::{Cascade, Controls, Paths};
+use unit::{ONES, Operands, bit};
 
 // An entry of a select: 0, M, P, A:B, all ones, C, PCIN, PCIN shifted, P shifted, RND, the CARRYIN path, a sign or its
-// complement, the carry of the slice below.
-#[derive(Clone, Copy)]
+// complement, the carry of the slice below. The numbers are those that dsp_why tells.
+#[derive(Clone, Copy, Default)]
 pub enum Place {
-    Zero,
-    M,
-    P,
-    AB,
-    Ones,
-    C,
-    Pcin,
-    PcinShifted,
-    PShifted,
-    Rnd,
-    Carryin,
-    PcinBit47,
-    NotPcinBit47,
-    PBit47,
-    NotPBit47,
-    CarryBelow,
+    #[default]
+    Zero = 0,
+    M = 1,
+    P = 2,
+    AB = 3,
+    Ones = 4,
+    C = 5,
+    Pcin = 6,
+    PcinShifted = 7,
+    PShifted = 8,
+    Rnd = 9,
+    Carryin = 10,
+    PcinBit47 = 11,
+    NotPcinBit47 = 12,
+    PBit47 = 13,
+    NotPBit47 = 14,
+    CarryBelow = 15,
+}
+
+impl Place {
+    pub(crate) fn number(self) -> u64
+        ensures { result ≡ place_number self }
+    {
+        self as u64
+    }
 }
 
 // The place of each operand.
-#[derive(Clone, Copy)]
+#[derive(Clone, Copy, Default)]
 pub struct Places {
     pub w: Place,
     pub x: Place,
     pub y: Place,
     pub z: Place,
     pub cin: Place,
-}
-
-fn place_number(place: Place) -> u64
-    ensures { result ≡ place_number place }
-{
-    match place {
-        Place::Zero => 0,
-        Place::M => 1,
-        Place::P => 2,
-        Place::AB => 3,
-        Place::Ones => 4,
-        Place::C => 5,
-        Place::Pcin => 6,
-        Place::PcinShifted => 7,
-        Place::PShifted => 8,
-        Place::Rnd => 9,
-        Place::Carryin => 10,
-        Place::PcinBit47 => 11,
-        Place::NotPcinBit47 => 12,
-        Place::PBit47 => 13,
-        Place::NotPBit47 => 14,
-        Place::CarryBelow => 15,
-    }
-}
-
-// The places as words, in the operands' order.
-pub fn places_numbers(places: Places) -> [u64; 5]
-    ensures { result ≡ places_numbers places }
-{
-    let w = places.w;
-    let x = places.x;
-    let y = places.y;
-    let z = places.z;
-    let cin = places.cin;
-    [
-        place_number(w),
-        place_number(x),
-        place_number(y),
-        place_number(z),
-        place_number(cin),
-    ]
 }
 
 // A select that names the place 0 and three others.
@@ -135,13 +103,6 @@ pub fn places_of(k: Controls) -> Places
     }
 }
 
-// Bit 47.
-fn sign(n: u64) -> u64
-    ensures { result ≡ bit n 47 }
-{
-    (n >> 47) % 2
-}
-
 // What a place holds, of the slice's paths s, the cascade x and the M path m.
 #[tactic(auto, unfolding(crate::specs::Reason::held_at))]
 fn value_at(place: Place, a: Attributes, r: Registers, s: Paths, x: Cascade, m: u64) -> u64
@@ -149,20 +110,20 @@ fn value_at(place: Place, a: Attributes, r: Registers, s: Paths, x: Cascade, m: 
 {
     match place {
         Place::Zero => 0,
-        Place::M => unit::extend48(m),
+        Place::M => unit::extend(45, 48, m),
         Place::P => r.p,
-        Place::AB => s.a % 0x4000_0000 * 0x4_0000 + s.b % 0x4_0000,
-        Place::Ones => 0xffff_ffff_ffff,
+        Place::AB => slice::joined(s.a, s.b),
+        Place::Ones => ONES,
         Place::C => s.c,
         Place::Pcin => x.p,
         Place::PcinShifted => word::shift17(x.p),
         Place::PShifted => word::shift17(r.p),
         Place::Rnd => a.rnd,
         Place::Carryin => s.carryin,
-        Place::PcinBit47 => sign(x.p),
-        Place::NotPcinBit47 => 1 - sign(x.p),
-        Place::PBit47 => sign(r.p),
-        Place::NotPBit47 => 1 - sign(r.p),
+        Place::PcinBit47 => bit(x.p, 47),
+        Place::NotPcinBit47 => 1 - bit(x.p, 47),
+        Place::PBit47 => bit(r.p, 47),
+        Place::NotPBit47 => 1 - bit(r.p, 47),
         Place::CarryBelow => x.carry,
     }
 }
@@ -179,16 +140,11 @@ pub fn values_at(
 ) -> Operands
     ensures { result ≡ held_values a r s x m places }
 {
-    let w_place = places.w;
-    let x_place = places.x;
-    let y_place = places.y;
-    let z_place = places.z;
-    let cin_place = places.cin;
     Operands {
-        w: value_at(w_place, a, r, s, x, m),
-        x: value_at(x_place, a, r, s, x, m),
-        y: value_at(y_place, a, r, s, x, m),
-        z: value_at(z_place, a, r, s, x, m),
-        cin: value_at(cin_place, a, r, s, x, m),
+        w: value_at(places.w, a, r, s, x, m),
+        x: value_at(places.x, a, r, s, x, m),
+        y: value_at(places.y, a, r, s, x, m),
+        z: value_at(places.z, a, r, s, x, m),
+        cin: value_at(places.cin, a, r, s, x, m),
     }
 }

@@ -1,51 +1,33 @@
 // The rules of the unit: one for each arithmetic mode, and one for each function that a logic mode's row gives.
 ghost use Rattle.std.specs.Prelude.{◌≡◌};
-ghost use Rattle.reason.specs.Reason.{rule_number, by_y_rule, rule_of, applied};
+ghost use Rattle.reason.specs.Reason.{rule_number, by_y_rule, rule_of, made_by, applied};
 
-use slice::Operands;
+use unit::{ONES, Operands};
 
-const ONES: u64 = 0xffff_ffff_ffff;
-
-// `NoRule` is of a refused mode, and of a refused call.
+// The numbers are those that dsp_why tells.
 #[derive(Clone, Copy)]
 pub enum Rule {
-    NoRule,
-    Sum,
-    SumNotZ,
-    NotSum,
-    Difference,
-    Xor,
-    Xnor,
-    And,
-    Or,
-    AndNotZ,
-    OrNotZ,
-    Nand,
-    Nor,
-    NotXOrZ,
-    NotXAndZ,
+    Sum = 1,
+    SumNotZ = 2,
+    NotSum = 3,
+    Difference = 4,
+    Xor = 5,
+    Xnor = 6,
+    And = 7,
+    Or = 8,
+    AndNotZ = 9,
+    OrNotZ = 10,
+    Nand = 11,
+    Nor = 12,
+    NotXOrZ = 13,
+    NotXAndZ = 14,
 }
 
-pub fn rule_number(rule: Rule) -> u64
+// 0 where there is none.
+pub fn number(rule: Option<Rule>) -> u64
     ensures { result ≡ rule_number rule }
 {
-    match rule {
-        Rule::NoRule => 0,
-        Rule::Sum => 1,
-        Rule::SumNotZ => 2,
-        Rule::NotSum => 3,
-        Rule::Difference => 4,
-        Rule::Xor => 5,
-        Rule::Xnor => 6,
-        Rule::And => 7,
-        Rule::Or => 8,
-        Rule::AndNotZ => 9,
-        Rule::OrNotZ => 10,
-        Rule::Nand => 11,
-        Rule::Nor => 12,
-        Rule::NotXOrZ => 13,
-        Rule::NotXAndZ => 14,
-    }
+    rule.map_or(0, |rule| rule as u64)
 }
 
 // A logic mode's rule goes by Y.
@@ -56,39 +38,36 @@ fn by_y(y: u64, zeros: Rule, ones: Rule) -> Rule
 }
 
 #[tactic(auto, unfolding(crate::specs::Reason::rule_of))]
-pub fn rule_of(mode: u64, y: u64) -> Rule
+pub fn rule_of(mode: u64, y: u64) -> Option<Rule>
     ensures { result ≡ rule_of mode y }
 {
-    match mode {
+    Some(match mode {
         0 => Rule::Sum,
         1 => Rule::SumNotZ,
         2 => Rule::NotSum,
         3 => Rule::Difference,
-        4 => by_y(y, Rule::Xor, Rule::Xnor),
-        5 => by_y(y, Rule::Xnor, Rule::Xor),
-        6 => by_y(y, Rule::Xnor, Rule::Xor),
-        7 => by_y(y, Rule::Xor, Rule::Xnor),
+        4 | 7 => by_y(y, Rule::Xor, Rule::Xnor),
+        5 | 6 => by_y(y, Rule::Xnor, Rule::Xor),
         12 => by_y(y, Rule::And, Rule::Or),
         13 => by_y(y, Rule::AndNotZ, Rule::OrNotZ),
         14 => by_y(y, Rule::Nand, Rule::Nor),
         15 => by_y(y, Rule::NotXOrZ, Rule::NotXAndZ),
-        _ => Rule::NoRule,
-    }
+        _ => return None,
+    })
 }
 
 // What a rule makes of the operands: an arithmetic one in its lanes, a logic one on the 48 bits of X and Z.
-#[tactic(auto, unfolding(crate::specs::Reason::applied))]
-pub fn applied(rule: Rule, simd: u64, o: Operands) -> u64
-    ensures { result ≡ applied rule simd o }
+#[tactic(auto, unfolding(crate::specs::Reason::made_by))]
+fn made_by(rule: Rule, simd: u64, o: Operands) -> u64
+    ensures { result ≡ made_by rule simd o }
 {
     let x = o.x % 0x1_0000_0000_0000;
     let z = o.z % 0x1_0000_0000_0000;
     match rule {
-        Rule::NoRule => 0,
-        Rule::Sum => unit::in_lanes(simd, 0, o.w, o.x, o.y, o.z, o.cin),
-        Rule::SumNotZ => unit::in_lanes(simd, 1, o.w, o.x, o.y, o.z, o.cin),
-        Rule::NotSum => unit::in_lanes(simd, 2, o.w, o.x, o.y, o.z, o.cin),
-        Rule::Difference => unit::in_lanes(simd, 3, o.w, o.x, o.y, o.z, o.cin),
+        Rule::Sum => unit::in_lanes(simd, 0, o),
+        Rule::SumNotZ => unit::in_lanes(simd, 1, o),
+        Rule::NotSum => unit::in_lanes(simd, 2, o),
+        Rule::Difference => unit::in_lanes(simd, 3, o),
         Rule::Xor => x ^ z,
         Rule::Xnor => ONES - (x ^ z),
         Rule::And => x & z,
@@ -100,4 +79,11 @@ pub fn applied(rule: Rule, simd: u64, o: Operands) -> u64
         Rule::NotXOrZ => (ONES - x) | z,
         Rule::NotXAndZ => (ONES - x) & z,
     }
+}
+
+// The same of the rule of a slice; 0 where there is none.
+pub fn applied(rule: Option<Rule>, simd: u64, o: Operands) -> u64
+    ensures { result ≡ applied rule simd o }
+{
+    rule.map_or(0, |rule| made_by(rule, simd, o))
 }

@@ -21,16 +21,14 @@ use Rattle.records.proofs.Outputs.cleared.Kinds as outputs_cleared_kinds
 use Rattle.records.proofs.Outputs.cleared.Reads as outputs_cleared_reads
 use Rattle.records.proofs.Outputs.words.Kinds as outputs_words_kinds
 use Rattle.records.proofs.Outputs.words.Reads as outputs_words_reads
-use Rattle.records.proofs.Attributes.of.Kinds as attributes_of_kinds
-use Rattle.records.proofs.Attributes.of.Reads as attributes_of_reads
-use Rattle.records.proofs.Registers.of.Kinds as registers_of_kinds
-use Rattle.records.proofs.Registers.of.Reads as registers_of_reads
+use Rattle.records.proofs.AttributesRecord.of.Kinds as attributes_of_kinds
+use Rattle.records.proofs.AttributesRecord.of.Reads as attributes_of_reads
+use Rattle.records.proofs.RegistersRecord.of.Kinds as registers_of_kinds
+use Rattle.records.proofs.RegistersRecord.of.Reads as registers_of_reads
 use Rattle.records.proofs.Registers.put.Kinds as put_kinds
 use Rattle.records.proofs.Registers.put.Reads as put_reads
-use Rattle.records.proofs.Registers.put_back.Kinds as put_back_kinds
-use Rattle.records.proofs.Registers.put_back.Reads as put_back_reads
-use Rattle.records.proofs.Ports.of.Kinds as ports_of_kinds
-use Rattle.records.proofs.Ports.of.Reads as ports_of_reads
+use Rattle.records.proofs.PortsRecord.of.Kinds as ports_of_kinds
+use Rattle.records.proofs.PortsRecord.of.Reads as ports_of_reads
 
 pub attributes_cleared_once : Once attributes_cleared_kinds.ps attributes_cleared_kinds.r attributes_cleared_reads.Post
 attributes_cleared_once _ _ _ _ _ _ a b = a ∙ sym b
@@ -69,8 +67,3 @@ ports_of_once _ _ _ _ _ _ a b = a ∙ sym b
 pub put_once : (κs : Lfts 1) (args : Dens κs put_kinds.ps) (r₁ r₂ : (res_t put_kinds.r κs).Denot) (x₁ x₂ : AtExit (ended_of 1 put_kinds.ps put_kinds.r) κs)
     → put_reads.Post κs args r₁ x₁ → put_reads.Post κs args r₂ x₂ → x₁.1.0.now ≡ x₂.1.0.now
 put_once κs args r₁ r₂ x₁ x₂ a b = a ∙ sym b
-
-pub put_back_once : (κs : Lfts 1) (args : Dens κs put_back_kinds.ps) (r₁ r₂ : (res_t put_back_kinds.r κs).Denot)
-    (x₁ x₂ : AtExit (ended_of 1 put_back_kinds.ps put_back_kinds.r) κs)
-    → put_back_reads.Post κs args r₁ x₁ → put_back_reads.Post κs args r₂ x₂ → x₁.1.0.now ≡ x₂.1.0.now
-put_back_once κs args r₁ r₂ x₁ x₂ a b = a ∙ sym b

@@ -1,13 +1,31 @@
 // The four records of a slice (01, "The lent words"): their words by name and in their order, how many they are and how wide,
-// the record of a stretch of lent words, its words put there, and the cleared slice.
+// the record of a stretch of lent words, its words put there, and the cleared slice. `cleared` and `words` stand with each record: 01
+// names the constructor, and `words` is the record's own list, which no name of a type would say plainer.
 #![tactic(auto)]
 
-ghost use Rattle.std.specs.Prelude.{◌≡◌, ◌≤◌, length, replicate};
+ghost use Rattle.std.specs.Prelude.{ℕ, List, ◌≡◌, replicate};
 ghost use Rattle.lent.specs.Words.{enough, stored};
 ghost use Rattle.records.specs.Records.{attribute_words, attributes_of, attributes_words, register_words, registers_of, registers_words, port_words, ports_of, ports_words, output_words, outputs_of, outputs_words};
 
+// The slices of a column, at most.
+pub const MOST_SLICES: usize = 24;
+
+// A record that is read from lent words: how many, and which record of these. `COUNT` is each record's own `WORDS`, where 01 has it, for code
+// that goes by no record's name.
+pub trait Record: Copy {
+    ghost COUNT: { ℕ };
+
+    ghost record_of: { List ℕ → Self };
+
+    const COUNT: usize;
+
+    // The record of a stretch of lent words. Of a stretch that is too short no word is read: each is 0.
+    fn of(words: &[u64]) -> Self
+        ensures { result ≡ record_of (enough COUNT words.now) };
+}
+
 // A slice's settings.
-#[derive(Clone, Copy)]
+#[derive(Clone, Copy, Default)]
 pub struct Attributes {
     pub areg: u64,
     pub breg: u64,
@@ -44,70 +62,7 @@ impl Attributes {
     pub fn cleared() -> Attributes
         ensures { result ≡ attributes_of (replicate attribute_words 0) }
     {
-        Attributes {
-            areg: 0,
-            breg: 0,
-            acascreg: 0,
-            bcascreg: 0,
-            a_input: 0,
-            b_input: 0,
-            creg: 0,
-            dreg: 0,
-            adreg: 0,
-            mreg: 0,
-            preg: 0,
-            opmodereg: 0,
-            alumodereg: 0,
-            inmodereg: 0,
-            carryinreg: 0,
-            carryinselreg: 0,
-            use_mult: 0,
-            amultsel: 0,
-            rnd: 0,
-            pattern: 0,
-            mask: 0,
-            use_simd: 0,
-        }
-    }
-
-    fn read(words: &[u64]) -> Attributes
-        requires { attribute_words ≤ length words.now }
-        ensures { result ≡ attributes_of words.now }
-    {
-        Attributes {
-            areg: words[0],
-            breg: words[1],
-            acascreg: words[2],
-            bcascreg: words[3],
-            a_input: words[4],
-            b_input: words[5],
-            creg: words[6],
-            dreg: words[7],
-            adreg: words[8],
-            mreg: words[9],
-            preg: words[10],
-            opmodereg: words[11],
-            alumodereg: words[12],
-            inmodereg: words[13],
-            carryinreg: words[14],
-            carryinselreg: words[15],
-            use_mult: words[16],
-            amultsel: words[17],
-            rnd: words[18],
-            pattern: words[19],
-            mask: words[20],
-            use_simd: words[21],
-        }
-    }
-
-    // The record of a stretch of lent words. Of a stretch that is too short no word is read: each is 0.
-    pub fn of(words: &[u64]) -> Attributes
-        ensures { result ≡ attributes_of (enough attribute_words words.now) }
-    {
-        if words.len() < Attributes::WORDS {
-            return Attributes::cleared();
-        }
-        Attributes::read(words)
+        Attributes::default()
     }
 
     pub fn words(self) -> [u64; Attributes::WORDS]
@@ -140,8 +95,46 @@ impl Attributes {
     }
 }
 
+impl Record for Attributes {
+    ghost COUNT = { attribute_words };
+
+    ghost record_of = { attributes_of };
+
+    const COUNT: usize = Attributes::WORDS;
+
+    fn of(words: &[u64]) -> Attributes {
+        if words.len() < Attributes::WORDS {
+            return Attributes::cleared();
+        }
+        Attributes {
+            areg: words[0],
+            breg: words[1],
+            acascreg: words[2],
+            bcascreg: words[3],
+            a_input: words[4],
+            b_input: words[5],
+            creg: words[6],
+            dreg: words[7],
+            adreg: words[8],
+            mreg: words[9],
+            preg: words[10],
+            opmodereg: words[11],
+            alumodereg: words[12],
+            inmodereg: words[13],
+            carryinreg: words[14],
+            carryinselreg: words[15],
+            use_mult: words[16],
+            amultsel: words[17],
+            rnd: words[18],
+            pattern: words[19],
+            mask: words[20],
+            use_simd: words[21],
+        }
+    }
+}
+
 // What a slice holds between edges.
-#[derive(Clone, Copy)]
+#[derive(Clone, Copy, Default)]
 pub struct Registers {
     pub a1: u64,
     pub a2: u64,
@@ -175,120 +168,14 @@ impl Registers {
     pub fn cleared() -> Registers
         ensures { result ≡ registers_of (replicate register_words 0) }
     {
-        Registers {
-            a1: 0,
-            a2: 0,
-            b1: 0,
-            b2: 0,
-            c: 0,
-            d: 0,
-            ad: 0,
-            m: 0,
-            p: 0,
-            opmode: 0,
-            alumode: 0,
-            inmode: 0,
-            carryinsel: 0,
-            carryin: 0,
-            pd: 0,
-            pbd: 0,
-            pdpast: 0,
-            pbdpast: 0,
-            carry: 0,
-        }
-    }
-
-    fn read(words: &[u64]) -> Registers
-        requires { register_words ≤ length words.now }
-        ensures { result ≡ registers_of words.now }
-    {
-        Registers {
-            a1: words[0],
-            a2: words[1],
-            b1: words[2],
-            b2: words[3],
-            c: words[4],
-            d: words[5],
-            ad: words[6],
-            m: words[7],
-            p: words[8],
-            opmode: words[9],
-            alumode: words[10],
-            inmode: words[11],
-            carryinsel: words[12],
-            carryin: words[13],
-            pd: words[14],
-            pbd: words[15],
-            pdpast: words[16],
-            pbdpast: words[17],
-            carry: words[18],
-        }
-    }
-
-    // The record of a stretch of lent words. Of a stretch that is too short no word is read: each is 0.
-    pub fn of(words: &[u64]) -> Registers
-        ensures { result ≡ registers_of (enough register_words words.now) }
-    {
-        if words.len() < Registers::WORDS {
-            return Registers::cleared();
-        }
-        Registers::read(words)
+        Registers::default()
     }
 
     // Puts the words in a stretch of lent words. In a stretch of another length nothing is put.
     pub fn put(self, words: &mut [u64])
         ensures { words.new ≡ stored words.old (registers_words self) }
     {
-        if words.len() != Registers::WORDS {
-            return;
-        }
-        words[0] = self.a1;
-        words[1] = self.a2;
-        words[2] = self.b1;
-        words[3] = self.b2;
-        words[4] = self.c;
-        words[5] = self.d;
-        words[6] = self.ad;
-        words[7] = self.m;
-        words[8] = self.p;
-        words[9] = self.opmode;
-        words[10] = self.alumode;
-        words[11] = self.inmode;
-        words[12] = self.carryinsel;
-        words[13] = self.carryin;
-        words[14] = self.pd;
-        words[15] = self.pbd;
-        words[16] = self.pdpast;
-        words[17] = self.pbdpast;
-        words[18] = self.carry;
-    }
-
-    // The same from the last word to the first: two ways in code that put in one order are compiled as one, which is dearer.
-    pub fn put_back(self, words: &mut [u64])
-        ensures { words.new ≡ stored words.old (registers_words self) }
-    {
-        if words.len() != Registers::WORDS {
-            return;
-        }
-        words[18] = self.carry;
-        words[17] = self.pbdpast;
-        words[16] = self.pdpast;
-        words[15] = self.pbd;
-        words[14] = self.pd;
-        words[13] = self.carryin;
-        words[12] = self.carryinsel;
-        words[11] = self.inmode;
-        words[10] = self.alumode;
-        words[9] = self.opmode;
-        words[8] = self.p;
-        words[7] = self.m;
-        words[6] = self.ad;
-        words[5] = self.d;
-        words[4] = self.c;
-        words[3] = self.b2;
-        words[2] = self.b1;
-        words[1] = self.a2;
-        words[0] = self.a1;
+        lent::store(words, &self.words());
     }
 
     pub fn words(self) -> [u64; Registers::WORDS]
@@ -318,8 +205,43 @@ impl Registers {
     }
 }
 
+impl Record for Registers {
+    ghost COUNT = { register_words };
+
+    ghost record_of = { registers_of };
+
+    const COUNT: usize = Registers::WORDS;
+
+    fn of(words: &[u64]) -> Registers {
+        if words.len() < Registers::WORDS {
+            return Registers::cleared();
+        }
+        Registers {
+            a1: words[0],
+            a2: words[1],
+            b1: words[2],
+            b2: words[3],
+            c: words[4],
+            d: words[5],
+            ad: words[6],
+            m: words[7],
+            p: words[8],
+            opmode: words[9],
+            alumode: words[10],
+            inmode: words[11],
+            carryinsel: words[12],
+            carryin: words[13],
+            pd: words[14],
+            pbd: words[15],
+            pdpast: words[16],
+            pbdpast: words[17],
+            carry: words[18],
+        }
+    }
+}
+
 // What a slice is given in a clock.
-#[derive(Clone, Copy)]
+#[derive(Clone, Copy, Default)]
 pub struct Ports {
     pub a: u64,
     pub b: u64,
@@ -343,48 +265,7 @@ impl Ports {
     pub fn cleared() -> Ports
         ensures { result ≡ ports_of (replicate port_words 0) }
     {
-        Ports {
-            a: 0,
-            b: 0,
-            c: 0,
-            d: 0,
-            opmode: 0,
-            alumode: 0,
-            inmode: 0,
-            carryinsel: 0,
-            carryin: 0,
-            ce: 0,
-            rst: 0,
-        }
-    }
-
-    fn read(words: &[u64]) -> Ports
-        requires { port_words ≤ length words.now }
-        ensures { result ≡ ports_of words.now }
-    {
-        Ports {
-            a: words[0],
-            b: words[1],
-            c: words[2],
-            d: words[3],
-            opmode: words[4],
-            alumode: words[5],
-            inmode: words[6],
-            carryinsel: words[7],
-            carryin: words[8],
-            ce: words[9],
-            rst: words[10],
-        }
-    }
-
-    // The record of a stretch of lent words. Of a stretch that is too short no word is read: each is 0.
-    pub fn of(words: &[u64]) -> Ports
-        ensures { result ≡ ports_of (enough port_words words.now) }
-    {
-        if words.len() < Ports::WORDS {
-            return Ports::cleared();
-        }
-        Ports::read(words)
+        Ports::default()
     }
 
     pub fn words(self) -> [u64; Ports::WORDS]
@@ -406,8 +287,35 @@ impl Ports {
     }
 }
 
+impl Record for Ports {
+    ghost COUNT = { port_words };
+
+    ghost record_of = { ports_of };
+
+    const COUNT: usize = Ports::WORDS;
+
+    fn of(words: &[u64]) -> Ports {
+        if words.len() < Ports::WORDS {
+            return Ports::cleared();
+        }
+        Ports {
+            a: words[0],
+            b: words[1],
+            c: words[2],
+            d: words[3],
+            opmode: words[4],
+            alumode: words[5],
+            inmode: words[6],
+            carryinsel: words[7],
+            carryin: words[8],
+            ce: words[9],
+            rst: words[10],
+        }
+    }
+}
+
 // What a slice shows in a clock.
-#[derive(Clone, Copy)]
+#[derive(Clone, Copy, Default)]
 pub struct Outputs {
     pub p: u64,
     pub patterndetect: u64,
@@ -428,15 +336,7 @@ impl Outputs {
     pub fn cleared() -> Outputs
         ensures { result ≡ outputs_of (replicate output_words 0) }
     {
-        Outputs {
-            p: 0,
-            patterndetect: 0,
-            patternbdetect: 0,
-            overflow: 0,
-            underflow: 0,
-            preaddwrap: 0,
-            carry: 0,
-        }
+        Outputs::default()
     }
 
     pub fn words(self) -> [u64; Outputs::WORDS]

@@ -12,7 +12,7 @@ use Rattle.records.specs.declared.Registers.{Registers}
 use Rattle.records.specs.declared.Ports.{Ports}
 use Rattle.slice.specs.declared.inputs.Cascade.{Cascade}
 use Rattle.slice.specs.declared.inputs.Controls.{Controls}
-use Rattle.slice.specs.declared.operands.Operands.{Operands}
+use Rattle.unit.specs.declared.Operands.{Operands}
 use Rattle.slice.specs.Slice.{controls_of, selects_of, paths_of, operands_of, slice_operands, result_of, settled_carry, settled_of, slice_settled, edge, next_of, slice_next}
 
 -- "PREG 1 and no other registers", "inputs direct", ONE48: the registers of D, AD, M and INMODE are not on the way

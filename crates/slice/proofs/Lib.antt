@@ -1,3 +1,4 @@
+pub mod Edges
 pub mod Widths
 pub mod Registered
 pub mod Flags

@@ -15,6 +15,8 @@ use Rattle.slice.proofs.inputs.routed.Kinds as routed_kinds
 use Rattle.slice.proofs.inputs.routed.Reads as routed_reads
 use Rattle.slice.proofs.multiplier.m_path.Kinds as m_path_kinds
 use Rattle.slice.proofs.multiplier.m_path.Reads as m_path_reads
+use Rattle.slice.proofs.operands.joined.Kinds as joined_kinds
+use Rattle.slice.proofs.operands.joined.Reads as joined_reads
 use Rattle.slice.proofs.edge.settled_carry.Kinds as settled_carry_kinds
 use Rattle.slice.proofs.edge.settled_carry.Reads as settled_carry_reads
 use Rattle.slice.proofs.edge.cascade_of.Kinds as cascade_of_kinds
@@ -40,6 +42,9 @@ routed_once _ _ _ _ _ _ a b = a ∙ sym b
 
 pub m_path_once : Once m_path_kinds.ps m_path_kinds.r m_path_reads.Post
 m_path_once _ _ _ _ _ _ a b = a ∙ sym b
+
+pub joined_once : Once joined_kinds.ps joined_kinds.r joined_reads.Post
+joined_once _ _ _ _ _ _ a b = a ∙ sym b
 
 pub cascade_of_once : Once cascade_of_kinds.ps cascade_of_kinds.r cascade_of_reads.Post
 cascade_of_once _ _ _ _ _ _ a b = a ∙ sym b

@@ -6,6 +6,7 @@ use Rattle.lent.specs.Words.{stored, enough}
 use Rattle.unit.specs.Choice.{mux, choose, bit}
 use Rattle.unit.specs.Unit.{ones, split_result, carry_out, pre_adder, product, load}
 use Rattle.unit.specs.Detector.{detected}
+use Rattle.unit.specs.declared.Operands.{Operands}
 use Rattle.unit.specs.declared.PreAdded.{PreAdded}
 use Rattle.records.specs.declared.Attributes.{Attributes}
 use Rattle.records.specs.declared.Registers.{Registers}
@@ -17,7 +18,6 @@ use Rattle.slice.specs.declared.inputs.Controls.{Controls}
 use Rattle.slice.specs.declared.inputs.Selects.{Selects}
 use Rattle.slice.specs.declared.inputs.Paths.{Paths}
 use Rattle.slice.specs.declared.multiplier.Product.{Product}
-use Rattle.slice.specs.declared.operands.Operands.{Operands}
 use Rattle.slice.specs.declared.edge.Settled.{Settled}
 use Rattle.slice.specs.declared.edge.Step.{Step}
 

@@ -1,6 +1,6 @@
-// The choices that the hardware makes between two words, and the bits that select them.
-ghost use Rattle.std.specs.Prelude.{◌≡◌, cond, ◌<◌};
-ghost use Rattle.unit.specs.Choice.{mux, bit};
+// The choices that the hardware makes between two words.
+ghost use Rattle.std.specs.Prelude.{◌≡◌, cond};
+ghost use Rattle.unit.specs.Choice.{mux};
 
 pub fn mux(s: u64, x0: u64, x1: u64) -> u64
     ensures { result ≡ mux s x0 x1 }
@@ -12,11 +12,4 @@ pub fn pick(b: bool, x: u64, y: u64) -> u64
     ensures { result ≡ cond b x y }
 {
     if b { x } else { y }
-}
-
-pub fn bit(n: u64, k: u64) -> u64
-    requires { k < 64 }
-    ensures { result ≡ bit n k }
-{
-    (n >> k) % 2
 }

@@ -6,7 +6,7 @@ use crate::choice::mux;
 use records::{Attributes, Ports, Registers};
 
 // What a slice gets from the slice below: ACIN, BCIN, PCIN, and the carry.
-#[derive(Clone, Copy)]
+#[derive(Clone, Copy, Default)]
 pub struct Cascade {
     pub a: u64,
     pub b: u64,
@@ -64,7 +64,7 @@ pub fn selects_of(opmode: u64) -> Selects
 {
     Selects {
         w: (opmode >> 7) % 4,
-        x: (opmode >> 0) % 4,
+        x: opmode % 4,
         y: (opmode >> 2) % 4,
         z: (opmode >> 4) % 8,
     }
@@ -77,8 +77,8 @@ pub fn routed(a: Attributes, r: Registers, p: Ports, x: Cascade) -> Paths
     let ain = mux(a.a_input, p.a, x.a);
     let bin = mux(a.b_input, p.b, x.b);
     Paths {
-        ain: ain,
-        bin: bin,
+        ain,
+        bin,
         a: mux(a.areg, ain, r.a2),
         b: mux(a.breg, bin, r.b2),
         c: mux(a.creg, p.c, r.c),

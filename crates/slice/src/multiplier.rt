@@ -3,9 +3,10 @@ ghost use Rattle.std.specs.Prelude.{◌≡◌};
 ghost use Rattle.unit.specs.Choice.{mux};
 ghost use Rattle.slice.specs.Slice.{a_side, d_side, product_of};
 
-use crate::choice::{bit, mux};
+use crate::choice::mux;
 use crate::inputs::{Controls, Paths};
 use records::{Attributes, Registers};
+use unit::bit;
 
 #[derive(Clone, Copy)]
 pub struct Product {
@@ -51,6 +52,5 @@ pub fn multiplied(a: Attributes, r: Registers, k: Controls, s: Paths) -> Product
 pub fn m_path(a: Attributes, r: Registers, k: Controls, s: Paths) -> u64
     ensures { result ≡ mux a.mreg (product_of a r k s).m r.m }
 {
-    let t = multiplied(a, r, k, s);
-    mux(a.mreg, t.m, r.m)
+    mux(a.mreg, multiplied(a, r, k, s).m, r.m)
 }

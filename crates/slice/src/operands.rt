@@ -1,22 +1,14 @@
-// The unit's operands. Each is worked out only where its select chooses it; the choice of most slices goes first.
+// The unit's operands. Each is worked out only where its select chooses it. The choice of most slices, W 0 and CARRYINSEL 0, goes first
+// (docs/DECISIONS.md, 44): tried as arms of the `match`, the clock took 12 to 14 instructions a slice more, 2 in 100.
 ghost use Rattle.std.specs.Prelude.{◌≡◌, [], ◌∷◌, ◌-◌};
 ghost use Rattle.word.specs.Word.{extend, shifted};
 ghost use Rattle.unit.specs.Choice.{choose, bit};
 ghost use Rattle.unit.specs.Unit.{ones};
 ghost use Rattle.slice.specs.Slice.{joined, operands_of};
 
-use crate::choice::bit;
 use crate::inputs::{Cascade, Controls, Paths, selects_of};
 use records::{Attributes, Registers};
-
-#[derive(Clone, Copy)]
-pub struct Operands {
-    pub w: u64,
-    pub x: u64,
-    pub y: u64,
-    pub z: u64,
-    pub cin: u64,
-}
+use unit::{ONES, Operands, bit};
 
 fn w_operand(select: u64, own: u64, rnd: u64, c: u64) -> u64
     ensures { result ≡ choose (0 ∷ own ∷ rnd ∷ c ∷ []) select }
@@ -36,11 +28,18 @@ fn x_operand(select: u64, m: u64, own: u64, a: u64, b: u64) -> u64
     ensures { result ≡ choose (0 ∷ extend 45 48 m ∷ own ∷ joined a b ∷ []) select }
 {
     match select {
-        1 => unit::extend48(m),
+        1 => unit::extend(45, 48, m),
         2 => own,
-        3 => a % 0x4000_0000 * 0x4_0000 + b % 0x4_0000,
+        3 => joined(a, b),
         _ => 0,
     }
+}
+
+// A:B, the A path above the B path.
+pub fn joined(a: u64, b: u64) -> u64
+    ensures { result ≡ joined a b }
+{
+    a % 0x4000_0000 * 0x4_0000 + b % 0x4_0000
 }
 
 fn y_operand(select: u64, c: u64) -> u64
@@ -48,7 +47,7 @@ fn y_operand(select: u64, c: u64) -> u64
 {
     match select {
         1 => 0, // M, which X contributes
-        2 => 0xffff_ffff_ffff,
+        2 => ONES,
         3 => c,
         _ => 0,
     }

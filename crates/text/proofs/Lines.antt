@@ -1,20 +1,15 @@
 -- Laws of a line's fields, read one after the other. Assumes nothing.
-use Rattle.std.proofs.Common.{◌≡◌, ℕ, suc, ◌+◌, ◌-◌, ◌<◌, ◌≤◌, Bool, true, false, cond, not, ◌&&◌, eqb, ltb, leb, List, [], ◌∷◌, ◌++◌, length, get_or, take, drop, set, replicate, sym, refl, ap, ◌∙◌, append_assoc, append-nil, add-one, arith, length-set, take_all, drop-drop, take-suc-set, ltb-false, ltb-true, ne_eqb, eqb-true, leb-true}
+use Rattle.std.proofs.Common.{Option, Some, None, option_map, ◌≡◌, ℕ, suc, ◌+◌, ◌-◌, ◌<◌, ◌≤◌, Bool, true, false, cond, not, ◌&&◌, eqb, leb, List, [], ◌∷◌, ◌++◌, length, take, drop, set, sym, refl, ap, ◌∙◌, append_assoc, append-nil, add-one, arith, length-set, take_all, take-suc-set, ne_eqb, eqb-true, leb-true}
 use mathlib.Core.Bool.{and-true, and-false}
 use native.Mathlib.Numerals.{unary_clauses}
 use lib.Dec.{eqb-suc-suc, eqb-zero-suc, eqb-suc-zero}
 use lib.ListN.{length-replicate}
-use borrow.Author.Tests.{eqb-false}
 use Rattle.text.specs.Bytes.{tab, most_bytes}
-use Rattle.text.specs.declared.numeral.Parsed.{Parsed}
-use Rattle.text.specs.declared.numeral.Parsed.TheVariants.{Value, Bad}
-use Rattle.text.specs.declared.numeral.Found.{Found}
-use Rattle.text.specs.declared.numeral.Found.TheVariants.{Number, Nothing}
 use Rattle.text.specs.Parts.{parted, onto}
 use Rattle.text.specs.Numbers.{number_of, Numbers, values, malformed, joins, numbers_of, counted, lettered, headed, line_of, is_well, words_of}
-use Rattle.text.specs.Calls.{Taken}
-use Rattle.text.specs.Within.{before, up_to, number_at, field_at, starts, due, filled}
-use Rattle.text.proofs.Numerals.{cond_same, next_byte, none_left, found_within}
+use Rattle.text.specs.Within.{before, number_first, field_first, starts, due, filled}
+use Rattle.text.proofs.Numerals.{cond_same}
+use Rattle.text.proofs.Paste.{part_whole}
 
 -- the parts that follow the first
 abbrev following : List ℕ → List (List ℕ)
@@ -57,59 +52,48 @@ prefixed_more ws v (values vs) = ap values (sym (append_assoc ws (v ∷ []) vs))
 prefixed_more ws v malformed = refl
 
 -- one field more: a number, and the fields from its end on, or nothing
-abbrev before_rest : Parsed → Numbers → Numbers
-before_rest (Value v) x = prefixed (v ∷ []) x
-before_rest Bad x = malformed
+abbrev before_rest : Option ℕ → Numbers → Numbers
+before_rest (Some v) x = prefixed (v ∷ []) x
+before_rest None x = malformed
 
 counted_more : (m : ℕ) (f : List ℕ) (fs : List (List ℕ)) → counted (suc m) (f ∷ fs) ≡ before_rest (number_of f) (counted m fs)
 counted_more m f fs = rw (eqb-suc-suc (length fs) m) (go (eqb (length fs) m) (number_of f) (numbers_of fs))
   where
-    go : (t : Bool) (p : Parsed) (x : Numbers) → cond t (joins p x) malformed ≡ before_rest p (cond t x malformed)
-    go true (Value v) (values vs) = refl
-    go true (Value v) malformed = refl
-    go true Bad x = refl
-    go false (Value v) x = refl
-    go false Bad x = refl
+    go : (t : Bool) (p : Option ℕ) (x : Numbers) → cond t (joins p x) malformed ≡ before_rest p (cond t x malformed)
+    go true (Some v) (values vs) = refl
+    go true (Some v) malformed = refl
+    go true None x = refl
+    go false (Some v) x = refl
+    go false None x = refl
 
-abbrev then_due : (m : ℕ) → (s : List ℕ) → Found → Numbers
-then_due m s (Number v end) = prefixed (v ∷ []) (due m (drop end s))
-then_due m s Nothing = malformed
+abbrev then_due : (m : ℕ) → Option (ℕ × List ℕ) → Numbers
+then_due m (Some (v, rest)) = prefixed (v ∷ []) (due m rest)
+then_due m None = malformed
 
-parts_due : (m : ℕ) (s : List ℕ) (at : ℕ) → counted (suc m) (parted tab (drop at s)) ≡ then_due m s (number_at s at)
-parts_due m s at =
-    let r = drop at s in
-    ap (counted (suc m)) (part_first r)
-    ∙ counted_more m (before tab r) (following (drop (length (before tab r)) r))
-    ∙ ap (before_rest (number_of (before tab r))) (follows_due m r ∙ ap (due m) (drop-drop (length (before tab r)) at s))
-    ∙ go (number_of (before tab r))
+parts_due : (m : ℕ) (s : List ℕ) → counted (suc m) (parted tab s) ≡ then_due m (number_first s)
+parts_due m s =
+    ap (counted (suc m)) (part_first s)
+    ∙ counted_more m (before tab s) (following (drop (length (before tab s)) s))
+    ∙ ap (before_rest (number_of (before tab s))) (follows_due m s)
+    ∙ go (number_of (before tab s))
   where
-    go : (p : Parsed)
-        → before_rest p (due m (drop (at + length (before tab (drop at s))) s)) ≡ then_due m s (up_to (at + length (before tab (drop at s))) p)
-    go (Value v) = refl
-    go Bad = refl
+    go : (p : Option ℕ)
+        → before_rest p (due m (drop (length (before tab s)) s)) ≡ then_due m (option_map (λ v. (v, drop (length (before tab s)) s)) p)
+    go (Some v) = refl
+    go None = refl
 
-due_more : (m : ℕ) (s : List ℕ) (at : ℕ) → at ≤ length s → due (suc m) (drop at s) ≡ then_due m s (field_at s at)
-due_more m s at h = go (ltb at (length s)) refl
+due_more : (m : ℕ) (rest : List ℕ) → due (suc m) rest ≡ then_due m (field_first rest)
+due_more m [] = rw (eqb-zero-suc m)
+due_more m (b ∷ bs) = go (eqb b tab)
   where
-    at_tab : (t : Bool) → cond t (counted (suc m) (parted tab (drop (at + 1) s))) malformed ≡ then_due m s (cond t (number_at s (at + 1)) Nothing)
-    at_tab true = parts_due m s (at + 1)
-    at_tab false = refl
-
-    go : (t : Bool) → ltb at (length s) ≡ t
-        → due (suc m) (drop at s) ≡ then_due m s (cond (t && eqb (get_or s at 0) tab) (number_at s (at + 1)) Nothing)
-    go true e = rw (next_byte s at (ltb-true at (length s) e)) (at_tab (eqb (get_or s at 0) tab))
-    go false e = rw (none_left s at (omega (arith, ltb-false at (length s) e)), eqb-zero-suc m)
+    go : (t : Bool) → cond t (counted (suc m) (parted tab bs)) malformed ≡ then_due m (cond t (number_first bs) None)
+    go true = parts_due m bs
+    go false = refl
 
 -- where no field is due, the line ends
-due_end : (s : List ℕ) (at : ℕ) → at ≤ length s → due 0 (drop at s) ≡ filled (eqb at (length s)) []
-due_end s at h = go (eqb at (length s)) refl
-  where
-    go : (t : Bool) → eqb at (length s) ≡ t → due 0 (drop at s) ≡ filled t []
-    go true e = rw (none_left s at (eqb-true at (length s) e))
-    go false e =
-        let n : at ≡ length s → ⊥ = eqb-false at (length s) e in
-        let l : at < length s = omega arith in
-        rw (next_byte s at l, part_first (drop (at + 1) s), eqb-suc-zero) (cond_same (eqb (get_or s at 0) tab) malformed)
+due_end : (rest : List ℕ) → due 0 rest ≡ filled (eqb (length rest) 0) []
+due_end [] = refl
+due_end (b ∷ bs) = rw (part_first bs, eqb-suc-zero, eqb-suc-zero) (cond_same (eqb b tab) malformed)
 
 -- a line is its start, and then the fields that are due
 onto_letter : (letter n b : ℕ) (bs : List ℕ) → headed letter n (onto b (parted tab bs)) ≡ cond (eqb b letter) (due n bs) malformed
@@ -132,37 +116,14 @@ line_starts letter n (b ∷ bs) = go (leb (suc (length bs)) most_bytes) (eqb b t
     go true true = rw (and-false (eqb b letter))
     go true false = rw (and-true (eqb b letter)) (onto_letter letter n b bs)
 
-pub starts_none : (letter : ℕ) (s : List ℕ) → length s ≡ 0 → false ≡ starts letter s
-starts_none letter [] h = refl
-starts_none letter (b ∷ bs) h = let z : ⊥ = omega arith in absurd z
-
-pub starts_some : (letter : ℕ) (s : List ℕ) → (length s ≡ 0 → ⊥)
-    → (leb (length s) most_bytes && (eqb (get_or s 0 0) letter && not (eqb (get_or s 0 0) tab))) ≡ starts letter s
-starts_some letter [] h = absurd (h refl)
-starts_some letter (b ∷ bs) h = refl
-
-starts_length : (letter : ℕ) (s : List ℕ) → starts letter s ≡ true → 1 ≤ length s
-starts_length letter [] e = let z : ◌≡◌ {A = ℕ} 0 1 = cc in omega arith
-starts_length letter (b ∷ bs) e = omega arith
-
--- a field ends within the line
-field_within : (s : List ℕ) (at v end : ℕ) → field_at s at ≡ Number v end → at ≤ length s → end ≤ length s
-field_within s at v end e h = go (ltb at (length s)) refl (eqb (get_or s at 0) tab) e
-  where
-    go : (t : Bool) → ltb at (length s) ≡ t → (u : Bool) → cond (t && u) (number_at s (at + 1)) Nothing ≡ Number v end → end ≤ length s
-    go true q true e = (found_within (number_of (before tab (drop (at + 1) s))) s (at + 1) v end e (omega (arith, ltb-true at (length s) q))).1
-    go true q false e = let z : ◌≡◌ {A = ℕ} 0 1 = cc in omega arith
-    go false q u e = let z : ◌≡◌ {A = ℕ} 0 1 = cc in omega arith
-
 -- one more behind those that are known
 pub take_set : (ws : List ℕ) (j v : ℕ) → j < length ws → take (j + 1) (set ws j v) ≡ take j ws ++ (v ∷ [])
 take_set ws j v h = rw add-one (take-suc-set ws j v h)
 
--- a line that is being read: its first j numbers stand in `into`, and the others are due from a place on
-pub record Reading (letter : ℕ) (s : List ℕ) (n : ℕ) (into : List ℕ) (at j : ℕ) : Type 0 where
-  pub within : at ≤ length s
+-- a line that is being read: its first j numbers stand in `into`, and the others are due
+pub record Reading (letter : ℕ) (s : List ℕ) (n : ℕ) (into rest : List ℕ) (j : ℕ) : Type 0 where
   pub whole : length into ≡ n
-  pub so_far : line_of letter n s ≡ prefixed (take j into) (due (n - j) (drop at s))
+  pub so_far : line_of letter n s ≡ prefixed (take j into) (due (n - j) rest)
 
 -- the run of `filled`
 line_by_start : (letter n : ℕ) (s : List ℕ) {t : Bool} → starts letter s ≡ t → line_of letter n s ≡ cond t (due n (drop 1 s)) malformed
@@ -171,75 +132,57 @@ line_by_start letter n s e = line_starts letter n s ∙ ap (λ t. cond t (due n 
 pub line_other : (letter n : ℕ) (s : List ℕ) → starts letter s ≡ false → malformed ≡ line_of letter n s
 line_other letter n s e = sym (line_by_start letter n s e)
 
-pub line_begins : (letter : ℕ) (s into : List ℕ) → starts letter s ≡ true → Reading letter s (length into) into 1 0
+pub line_begins : (letter : ℕ) (s into : List ℕ) → starts letter s ≡ true → Reading letter s (length into) into (take (length s - 1) (drop 1 s)) 0
 line_begins letter s into e =
     let n = length into in
-    record {
-      within = starts_length letter s e;
-      whole = refl;
-      so_far = simp unary_clauses (line_by_start letter n s e ∙ prefixed_none (due n (drop 1 s)));
-    }
+    record { whole = refl; so_far = rw part_whole (simp unary_clauses (line_by_start letter n s e ∙ prefixed_none (due n (drop 1 s)))) }
 
-module _ {letter : ℕ} {s : List ℕ} {n : ℕ} {into : List ℕ} {at j : ℕ} (r : Reading letter s n into at j) where
-  turn : j < n → line_of letter n s ≡ prefixed (take j into) (then_due (n - (j + 1)) s (field_at s at))
+module _ {letter : ℕ} {s : List ℕ} {n : ℕ} {into rest : List ℕ} {j : ℕ} (r : Reading letter s n into rest j) where
+  turn : j < n → line_of letter n s ≡ prefixed (take j into) (then_due (n - (j + 1)) (field_first rest))
   turn h =
       let m : n - j ≡ suc (n - (j + 1)) = omega arith in
-      r.so_far ∙ ap (prefixed (take j into)) (ap (λ k. due k (drop at s)) m ∙ due_more (n - (j + 1)) s at r.within)
+      r.so_far ∙ ap (prefixed (take j into)) (ap (λ k. due k rest) m ∙ due_more (n - (j + 1)) rest)
 
-  pub turn_stop : j < n → field_at s at ≡ Nothing → malformed ≡ line_of letter n s
-  turn_stop h e = sym (turn h ∙ ap (λ f. prefixed (take j into) (then_due (n - (j + 1)) s f)) e)
+  pub turn_stop : j < n → field_first rest ≡ None → malformed ≡ line_of letter n s
+  turn_stop h e = sym (turn h ∙ ap (λ f. prefixed (take j into) (then_due (n - (j + 1)) f)) e)
 
-  pub turn_more : j < n → {v end : ℕ} → field_at s at ≡ Number v end → Reading letter s n (set into j v) end (j + 1)
-  turn_more h {v} {end} e =
+  pub turn_more : j < n → {v : ℕ} {more : List ℕ} → field_first rest ≡ Some (v, more) → Reading letter s n (set into j v) more (j + 1)
+  turn_more h {v} {more} e =
       let l : j < length into = omega (arith, r.whole) in
       let next : take (j + 1) (set into j v) ≡ take j into ++ (v ∷ []) = take_set into j v l in
       record {
-        within = field_within s at v end e r.within;
         whole = simp length-set r.whole;
         so_far =
             turn h
-            ∙ ap (λ f. prefixed (take j into) (then_due (n - (j + 1)) s f)) e
-            ∙ prefixed_more (take j into) v (due (n - (j + 1)) (drop end s))
-            ∙ ap (λ ws. prefixed ws (due (n - (j + 1)) (drop end s))) (sym next);
+            ∙ ap (λ f. prefixed (take j into) (then_due (n - (j + 1)) f)) e
+            ∙ prefixed_more (take j into) v (due (n - (j + 1)) more)
+            ∙ ap (λ ws. prefixed ws (due (n - (j + 1)) more)) (sym next);
       }
 
-  pub turn_end : n ≤ j → filled (eqb at (length s)) into ≡ line_of letter n s
+  pub turn_end : n ≤ j → filled (eqb (length rest) 0) into ≡ line_of letter n s
   turn_end h =
       let m : n - j ≡ 0 = omega arith in
       sym
       (r.so_far
-      ∙ ap (λ k. prefixed (take j into) (due k (drop at s))) m
-      ∙ ap (prefixed (take j into)) (due_end s at r.within)
-      ∙ ap (λ ws. prefixed ws (filled (eqb at (length s)) [])) (take_all j into (omega (arith, r.whole)))
-      ∙ go (eqb at (length s)))
+      ∙ ap (λ k. prefixed (take j into) (due k rest)) m
+      ∙ ap (prefixed (take j into)) (due_end rest)
+      ∙ ap (λ ws. prefixed ws (filled (eqb (length rest) 0) [])) (take_all j into (omega (arith, r.whole)))
+      ∙ go (eqb (length rest) 0))
     where
       go : (t : Bool) → prefixed into (filled t []) ≡ filled t into
       go true = ap values (append-nil into)
       go false = refl
-
--- what `line` leaves: the numbers, or zeros
-module _ (letter : ℕ) (s into filling : List ℕ) (r : Bool) (e : filled r filling ≡ line_of letter (length into) s) where
-  pub taken_well : r ≡ true → Taken letter s into true filling
-  taken_well q =
-      let v : values filling ≡ line_of letter (length into) s = rw q at e in
-      record { well = ap is_well v; words = ap (words_of (length into)) v }
-
-  pub taken_malformed : (zeros : List ℕ) → r ≡ false → zeros ≡ replicate (length filling) 0 → length filling ≡ length into
-      → Taken letter s into false zeros
-  taken_malformed zeros q z l =
-      let m : malformed ≡ line_of letter (length into) s = rw q at e in
-      record { well = ap is_well m; words = z ∙ ap (λ n. replicate n 0) l ∙ ap (words_of (length into)) m }
 
 -- as many words as numbers are due
 numbers_length : (fs : List (List ℕ)) → length (words_of (length fs) (numbers_of fs)) ≡ length fs
 numbers_length [] = refl
 numbers_length (f ∷ fs) = go (number_of f) (numbers_of fs) (numbers_length fs)
   where
-    go : (p : Parsed) (x : Numbers) → length (words_of (length fs) x) ≡ length fs
+    go : (p : Option ℕ) (x : Numbers) → length (words_of (length fs) x) ≡ length fs
         → length (words_of (suc (length fs)) (joins p x)) ≡ suc (length fs)
-    go (Value v) (values vs) e = ap suc e
-    go (Value v) malformed e = length-replicate (suc (length fs)) 0
-    go Bad x e = length-replicate (suc (length fs)) 0
+    go (Some v) (values vs) e = ap suc e
+    go (Some v) malformed e = length-replicate (suc (length fs)) 0
+    go None x e = length-replicate (suc (length fs)) 0
 
 counted_length : (n : ℕ) (fs : List (List ℕ)) → length (words_of n (counted n fs)) ≡ n
 counted_length n fs = go (eqb (length fs) n) refl

@@ -1,6 +1,7 @@
 -- Bytes put one after the other. Assumes nothing.
-use Rattle.std.proofs.Common.{◌≡◌, ℕ, ◌+◌, ◌<◌, ◌≤◌, List, [], ◌∷◌, ◌++◌, length, take, drop, set, sym, refl, ap, ◌∙◌, append_assoc, add-zero, add-one, arith, length-append, length-drop, take-append-drop, length-take, drop-drop, take_at}
-use lib.Seq.{set_split, drop-append-add}
+use Rattle.std.proofs.Common.{◌≡◌, ℕ, ◌+◌, ◌<◌, ◌≤◌, List, [], ◌∷◌, ◌++◌, length, take, drop, set, sym, refl, ap, ◌∙◌, append_assoc, append-nil, ◌-◌, take_all, add-zero, zero-add, add-one, arith, length-append, length-drop, take-append-drop, length-take, drop-drop, take_at}
+use lib.Seq.{set_split, drop-append-add, drop-length}
+use borrow.Rule.Slice.PartMut.{put_mid}
 use Rattle.text.specs.Printed.{pasted, Put}
 
 pub put_none : (at : ℕ) (out : List ℕ) → Put at [] out at out
@@ -39,3 +40,19 @@ put_more {at} {bs} {out} {end} {out'} {cs} {r} {out''} p q h =
 pub put_length : {at : ℕ} {bs out : List ℕ} {end : ℕ} {out' : List ℕ}
     → Put at bs out end out' → at + length bs ≤ length out → length out' ≡ length out
 put_length {at} {bs} {out} p h = ap length p.bytes ∙ pasted_length at bs out h
+
+-- what is put in the part from a place on stands from that place on
+pub part_whole : (at : ℕ) (out : List ℕ) → take (length out - at) (drop at out) ≡ drop at out
+part_whole at out = take_all (length out - at) (drop at out) (rw length-drop (omega arith))
+
+module _ (at : ℕ) (out : List ℕ) (within : at ≤ length out) where
+  pub part_room : {n : ℕ} → at + n ≤ length out → n ≤ length (take (length out - at) (drop at out))
+  part_room h = rw (part_whole, length-drop) (omega arith)
+
+  pub part_put : {bs : List ℕ} {n : ℕ} {part : List ℕ} → Put 0 bs (take (length out - at) (drop at out)) n part
+      → Put at bs out (at + n) (put_mid at (length out - at) out part)
+  part_put {bs} {n} {part} p =
+      let q : part ≡ bs ++ drop (length bs) (drop at out) = rw (part_whole, zero-add) at p.bytes in
+      let whole : at + (length out - at) ≡ length out = omega arith in
+      let none : drop (length out - at) (drop at out) ≡ [] = rw (drop-drop, whole) (drop-length out) in
+      record { ends = ap (λ (k : ℕ). at + k) (rw zero-add at p.ends); bytes = rw (none, append-nil part, q, drop-drop (length bs) at out) }

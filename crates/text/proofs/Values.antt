@@ -1,7 +1,6 @@
 -- Facts by value that pin what is read and printed: each stands beside a slip that would break it. Bytes stand here as numbers, so that
 -- their names are pinned too. Assumes nothing.
-use Rattle.std.proofs.Common.{◌≡◌, ℕ, ◌-◌, ◌^◌, true, false, List, [], ◌∷◌, ◌++◌, replicate, refl}
-use Rattle.text.specs.declared.numeral.Parsed.TheVariants.{Value, Bad}
+use Rattle.std.proofs.Common.{Some, None, ◌≡◌, ℕ, ◌-◌, ◌^◌, true, false, List, [], ◌∷◌, ◌++◌, replicate, refl}
 use Rattle.text.specs.Numbers.{number_of, values, malformed, line_of, is_well, words_of}
 use Rattle.text.specs.Printed.{printed, fields_of, decimal_of, pasted, line_within}
 
@@ -10,19 +9,19 @@ abbrev tenth : List ℕ
 tenth = 49 ∷ 56 ∷ 52 ∷ 52 ∷ 54 ∷ 55 ∷ 52 ∷ 52 ∷ 48 ∷ 55 ∷ 51 ∷ 55 ∷ 48 ∷ 57 ∷ 53 ∷ 53 ∷ 49 ∷ 54 ∷ 49 ∷ []
 
 pub record Numbers : Type 0 where
-  pub zero : number_of (48 ∷ []) ≡ Value 0
-  pub inner_zero : number_of (49 ∷ 48 ∷ 50 ∷ []) ≡ Value 102
+  pub zero : number_of (48 ∷ []) ≡ Some 0
+  pub inner_zero : number_of (49 ∷ 48 ∷ 50 ∷ []) ≡ Some 102
   -- 2^64 - 1, 2^64, and twenty nines
-  pub largest : number_of (tenth ++ (53 ∷ [])) ≡ Value (2 ^ 64 - 1)
-  pub one_too_many : number_of (tenth ++ (54 ∷ [])) ≡ Bad
-  pub nines : number_of (replicate 20 57) ≡ Bad
-  pub empty : number_of [] ≡ Bad
-  pub two_zeros : number_of (48 ∷ 48 ∷ []) ≡ Bad
-  pub leading_zero : number_of (48 ∷ 49 ∷ []) ≡ Bad
-  pub plus : number_of (43 ∷ 49 ∷ []) ≡ Bad
+  pub largest : number_of (tenth ++ (53 ∷ [])) ≡ Some (2 ^ 64 - 1)
+  pub one_too_many : number_of (tenth ++ (54 ∷ [])) ≡ None
+  pub nines : number_of (replicate 20 57) ≡ None
+  pub empty : number_of [] ≡ None
+  pub two_zeros : number_of (48 ∷ 48 ∷ []) ≡ None
+  pub leading_zero : number_of (48 ∷ 49 ∷ []) ≡ None
+  pub plus : number_of (43 ∷ 49 ∷ []) ≡ None
   -- the bytes beside the digits
-  pub slash : number_of (49 ∷ 47 ∷ []) ≡ Bad
-  pub colon : number_of (49 ∷ 58 ∷ []) ≡ Bad
+  pub slash : number_of (49 ∷ 47 ∷ []) ≡ None
+  pub colon : number_of (49 ∷ 58 ∷ []) ≡ None
 
 -- N, the letter of the lines below
 abbrev N : ℕ

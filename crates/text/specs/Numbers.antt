@@ -1,34 +1,32 @@
 -- A line of numbers (01, "Port listings"): "lines of tab-parted fields", "at most 512 bytes", "Decimal, no leading zeros but `0`,
 -- below 2^64". Assumes nothing.
-use Rattle.std.specs.Prelude.{ℕ, ◌+◌, ◌-◌, ◌*◌, ◌^◌, Bool, true, false, cond, ◌&&◌, List, [], ◌∷◌, length, replicate, ◌==◌, nat_le, nat_lt}
+use Rattle.std.specs.Prelude.{Option, Some, None, ℕ, ◌+◌, ◌-◌, ◌*◌, ◌^◌, Bool, true, false, cond, ◌&&◌, List, [], ◌∷◌, length, replicate, ◌==◌, nat_le, nat_lt}
 use Rattle.text.specs.Bytes.{tab, digit0, digit9, most_bytes}
-use Rattle.text.specs.declared.numeral.Parsed.{Parsed}
-use Rattle.text.specs.declared.numeral.Parsed.TheVariants.{Value, Bad}
 use Rattle.text.specs.Parts.{parted}
 
 abbrev pub is_digit : (b : ℕ) → Bool
 is_digit b = nat_le digit0 b && nat_le b digit9
 
 -- the number that digits go on to from v, as long as it is below 2^64
-abbrev pub digits_from : (v : ℕ) → List ℕ → Parsed
-digits_from v [] = Value v
-digits_from v (b ∷ bs) = cond (is_digit b && nat_lt (10 * v + (b - digit0)) (2 ^ 64)) (digits_from (10 * v + (b - digit0)) bs) Bad
+abbrev pub digits_from : (v : ℕ) → List ℕ → Option ℕ
+digits_from v [] = Some v
+digits_from v (b ∷ bs) = cond (is_digit b && nat_lt (10 * v + (b - digit0)) (2 ^ 64)) (digits_from (10 * v + (b - digit0)) bs) None
 
 -- decimal, no leading zeros but 0, below 2^64
-abbrev pub number_of : List ℕ → Parsed
-number_of [] = Bad
+abbrev pub number_of : List ℕ → Option ℕ
+number_of [] = None
 number_of (b ∷ []) = digits_from 0 (b ∷ [])
-number_of (b ∷ c ∷ bs) = cond (b == digit0) Bad (digits_from 0 (b ∷ c ∷ bs))
+number_of (b ∷ c ∷ bs) = cond (b == digit0) None (digits_from 0 (b ∷ c ∷ bs))
 
 -- what a line holds
 pub data Numbers : Type 0 where
   values : List ℕ → Numbers
   malformed : Numbers
 
-abbrev pub joins : Parsed → Numbers → Numbers
-joins (Value v) (values vs) = values (v ∷ vs)
-joins (Value v) malformed = malformed
-joins Bad vs = malformed
+abbrev pub joins : Option ℕ → Numbers → Numbers
+joins (Some v) (values vs) = values (v ∷ vs)
+joins (Some v) malformed = malformed
+joins None vs = malformed
 
 -- each field is a number
 abbrev pub numbers_of : (fields : List (List ℕ)) → Numbers

@@ -10,8 +10,11 @@ mod fields;
 mod numeral;
 mod print;
 
+pub use ascii::NEWLINE;
+pub use fields::MOST_BYTES;
+
 // Fills `into` with the numbers of a line, and answers whether the line is the letter and as many numbers. `into` is zeros where it
-// is not.
+// is not. The answer is no `Option`: the words are the caller's (nothing is on a heap), and `Taken` says what they hold either way.
 pub fn line(s: &[u8], letter: u8, into: &mut [u64]) -> bool
     ensures { Taken letter s.now into.old result into.new }
 {
@@ -25,16 +28,16 @@ pub fn line(s: &[u8], letter: u8, into: &mut [u64]) -> bool
 // Room for a printed field: a tab and 20 digits.
 pub const FIELD_ROOM: usize = 21;
 
-// Prints a line from `at` on: a letter, each number of both lists after a tab, and a newline. Answers where it ends. Where there is no
+// Prints a line from `at` on (so `put_line_once` and its callers have it): a letter, each number of both lists after a tab, and a newline. Answers where it ends. Where there is no
 // room for it, nothing is printed.
 pub fn put_line(letter: u8, numbers: &[u64], more: &[u64], out: &mut [u8], at: usize) -> usize
     ensures { Put at (line_within letter (numbers.now ++ more.now) at out.old) out.old result out.new }
 {
-    if out.len() < at {
+    let Some(room) = out.len().checked_sub(at) else {
+        return at;
+    };
+    if room / FIELD_ROOM <= numbers.len() + more.len() {
         return at;
     }
-    if (out.len() - at) / FIELD_ROOM <= numbers.len() + more.len() {
-        return at;
-    }
-    print::line(letter, numbers, more, out, at)
+    at + print::line(letter, numbers, more, &mut out[at..])
 }

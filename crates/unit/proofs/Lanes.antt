@@ -1,6 +1,6 @@
 -- Laws of the lanes, each once for every width: a lane reads its own bits alone, one lane is the rule itself, the lanes put together are a
 -- word of all their bits, and each of them is the rule on its own bits of the operands. Assumes nothing.
-use Rattle.std.proofs.Common.{◌≡◌, ℕ, zero, suc, ◌+◌, ◌-◌, ◌*◌, ◌/◌, ◌%◌, ◌^◌, ◌<◌, ◌≤◌, Bool, true, false, cond, eqb, ltb, leb, [], ◌∷◌, pos, ◌+ℤ◌, ◌-ℤ◌, neg_ℤ, sym, refl, ap, ◌∙◌, subst, ap₂, le_trans, le_refl, lt_of_lt_of_le, mod-lt, mod-eq_of_lt, suc-mul, mul-le-mul, add_comm, div-add-mod', zero-mul, mul-suc, div-one, arith, lit<, lit≤, pow_pos, pow_mono, pow-add, shr-shr}
+use Rattle.std.proofs.Common.{◌≡◌, ℕ, zero, suc, ◌+◌, ◌-◌, ◌*◌, ◌/◌, ◌%◌, ◌^◌, ◌<◌, ◌≤◌, Bool, true, false, cond, eqb, ltb, leb, [], ◌∷◌, pos, ◌+ℤ◌, ◌-ℤ◌, neg_ℤ, sym, refl, ap, ◌∙◌, subst, ap₂, lt_of_lt_of_le, mod-lt, mod-eq_of_lt, suc-mul, add_comm, div-add-mod', zero-mul, div-one, arith, lit<, lit≤, pow_pos, pow_mono, pow-add, shr-shr}
 use native.Mathlib.Nat.{mod-mod, mod-add-mod}
 use lib.ListN.{get_or-eq_default}
 use lib.Arith.{digits_lt, digits_div, digits_mod}
@@ -182,14 +182,7 @@ lanes_suc : (width n mode w x y z cin : ℕ)
 unfolding lanes
 lanes_suc width n mode w x y z cin = refl
 
--- lanes that have room in 48 bits: so has one of them, so have all but one, and so has the word that they are
-pub one_fits : (width count : ℕ) → (count ≡ 0 → ⊥) → width * count ≤ 48 → width < 64
-one_fits width zero some h = absurd (some refl)
-one_fits width (suc n) some h = omega (arith, mul-suc width n)
-
-pub fewer_fit : (width count : ℕ) → width * count ≤ 48 → width * (count - 1) ≤ 48
-fewer_fit width count h = le_trans (mul-le-mul (le_refl width) (omega arith)) h
-
+-- lanes that have room in 48 bits: so has the word that they are
 pub lanes_room : (width count mode w x y z cin : ℕ) → width * count ≤ 48 → lanes width count mode w x y z cin < 2 ^ 48
 lanes_room width count mode w x y z cin h = lt_of_lt_of_le (lanes_lt width count mode w x y z cin) (pow_mono {j = 48} (omega arith))
 

@@ -1,9 +1,9 @@
 -- What the pre-adder's mark tells (02, Ask 4), once for every width: it is 0 exactly where the result, read as signed, is the true sum or
 -- difference. Assumes nothing.
-use Rattle.std.proofs.Common.{◌≡◌, ℕ, zero, suc, ◌+◌, ◌-◌, ◌^◌, ◌<◌, ◌≤◌, Bool, true, false, cond, not, ltb, ℤ, pos, neg_ℤ, sym, refl, ap, ◌∙◌, pow-suc, arith, w64, SFits, ltb-true, lt-ltb}
+use Rattle.std.proofs.Common.{◌≡◌, ℕ, zero, suc, ◌+◌, ◌-◌, ◌^◌, ◌<◌, ◌≤◌, Bool, true, false, cond, ltb, ℤ, pos, neg_ℤ, sym, refl, ap, ◌∙◌, pow-suc, arith, ltb-true, lt-ltb}
 use lib.Signed.{mag}
 use Rattle.word.specs.Word.{word, signed}
-use Rattle.word.proofs.Laws.{signed_small, in_range, read_back, only_in_range, mag_add, mag_difference}
+use Rattle.word.proofs.Laws.{in_range, read_back, only_in_range, mag_add, mag_difference}
 use Rattle.word.proofs.Integers.{sum_word, difference_word}
 use Rattle.unit.specs.Unit.{wrapped_sum, true_sum, beyond, pre_adder}
 
@@ -13,18 +13,10 @@ unfolding wrapped_sum
 wrapped_true w zero d a = sum_word w d a
 wrapped_true w (suc s) d a = difference_word w d a
 
--- the true sum or difference is not much larger than its sides, so a machine word holds it
+-- the true sum or difference is not much larger than its sides
 true_size : (w subtract d a : ℕ) → mag (true_sum w subtract d a) ≤ suc (mag (signed w d) + mag (signed w a))
 true_size w zero d a = mag_add (signed w d) (signed w a)
 true_size w (suc s) d a = mag_difference (signed w d) (signed w a)
-
-pub true_fits : (subtract d a : ℕ) → SFits w64 (true_sum 27 subtract d a)
-true_fits subtract d a = record { sfits = omega (arith, true_size 27 subtract d a, signed_small 27 d, signed_small 27 a) }
-
--- 1 unless a test holds
-pub one_unless : (b : Bool) → cond {A = ℕ} (not b) 1 0 ≡ cond b 0 1
-one_unless true = refl
-one_unless false = refl
 
 -- the mark of v bits and a sign
 abbrev pub beyond_bits : (v : ℕ) → ℤ → ℕ

@@ -2,15 +2,29 @@
 // of a register; and the C bench's adder. Every function takes every number, and reads as many low bits as it is wide.
 #![tactic(auto)]
 
-ghost use Rattle.std.specs.Prelude.{◌≡◌, if◌then◌else◌};
+ghost use Rattle.std.specs.Prelude.{◌≡◌, ◌%◌};
 ghost use Rattle.word.specs.Word.{extend};
 ghost use Rattle.unit.specs.Unit.{lanes, lane_width, lane_count, unit_result, split_result, carry_out, summed_of, true_sum, pre_adder, cut_mark, product, load, within, forbidden, adder};
 ghost use Rattle.unit.specs.Detector.{detected};
 
 mod arithmetic;
+mod choice;
 mod logic;
 
-const ONES: u64 = 0xffff_ffff_ffff;
+pub use choice::bit;
+
+// 48 bits, all ones.
+pub const ONES: u64 = 0xffff_ffff_ffff;
+
+// What the unit adds up: its operands, and its carry in.
+#[derive(Clone, Copy, Default)]
+pub struct Operands {
+    pub w: u64,
+    pub x: u64,
+    pub y: u64,
+    pub z: u64,
+    pub cin: u64,
+}
 
 // What the detector shows: PD and PBD.
 #[derive(Clone, Copy)]
@@ -20,38 +34,46 @@ pub struct Detected {
 }
 
 // The adder and logic unit, in one piece.
-fn result(mode: u64, w: u64, x: u64, y: u64, z: u64, cin: u64) -> u64
-    ensures { result ≡ unit_result mode w x y z cin }
+#[tactic(auto, unfolding(crate::specs::Unit::unit_result))]
+fn result(mode: u64, o: Operands) -> u64
+    ensures { result ≡ unit_result mode o.w o.x o.y o.z o.cin }
 {
     if mode < 4 {
-        arithmetic::lane(48, mode, w, x, y, z, cin)
+        arithmetic::lane(48, mode, o)
     } else {
-        logic::formula(mode, x % 0x1_0000_0000_0000, y, z % 0x1_0000_0000_0000)
+        logic::formula(
+            mode,
+            o.x % 0x1_0000_0000_0000,
+            o.y,
+            o.z % 0x1_0000_0000_0000,
+        )
     }
 }
 
 // An adder that is split, or logic.
-fn split_or_logic(simd: u64, mode: u64, w: u64, x: u64, y: u64, z: u64, cin: u64) -> u64
-    ensures { result ≡ split_result simd mode w x y z cin }
+#[tactic(auto, unfolding(crate::specs::Unit::split_result))]
+fn split_or_logic(simd: u64, mode: u64, o: Operands) -> u64
+    ensures { result ≡ split_result simd mode o.w o.x o.y o.z o.cin }
 {
     if mode < 4 {
-        arithmetic::by_simd(simd, mode, w, x, y, z, cin)
+        arithmetic::by_simd(simd, mode, o)
     } else {
-        result(mode, w, x, y, z, cin)
+        result(mode, o)
     }
 }
 
 // The carry that the slice above may take, of the selects of W and Y and the operands that are left: where it shows, 1 exactly if
 // X + Z + CIN is at least 2^48.
-pub fn carry_out(simd: u64, mode: u64, wsel: u64, ysel: u64, x: u64, z: u64, cin: u64) -> u64
-    ensures { result ≡ carry_out simd mode wsel ysel x z cin }
+#[tactic(auto, unfolding(crate::specs::Unit::carry_out))]
+pub fn carry_out(simd: u64, mode: u64, wsel: u64, ysel: u64, o: Operands) -> u64
+    ensures { result ≡ carry_out simd mode wsel ysel o.x o.z o.cin }
 {
     if !((simd == 0) & (mode == 0) & (wsel == 0) & (ysel == 0)) {
         return 0;
     }
-    let sum = std::num::wrapping_add_u64(std::num::wrapping_add_u64(x, z), cin);
+    let sum = o.x.wrapping_add(o.z).wrapping_add(o.cin);
     // An operand past 48 bits is enough by itself; without one the sum doesn't wrap.
-    one_if((ONES < x) | (ONES < z) | (ONES < cin) | (ONES < sum))
+    ((ONES < o.x) | (ONES < o.z) | (ONES < o.cin) | (ONES < sum)) as u64
 }
 
 // What the unit makes: its result, and the carry beside it.
@@ -63,45 +85,33 @@ pub struct WithCarry {
 
 // The adder and logic unit, by USE_SIMD, of the selects of W and Y and of all operands. What most slices do stands apart, so that the
 // compiler sets it into their clock.
-pub fn summed(
-    simd: u64,
-    mode: u64,
-    wsel: u64,
-    ysel: u64,
-    w: u64,
-    x: u64,
-    y: u64,
-    z: u64,
-    cin: u64,
-) -> WithCarry
-    ensures { result ≡ summed_of simd mode wsel ysel w x y z cin }
+#[tactic(auto, unfolding(crate::specs::Unit::summed_of, crate::specs::Unit::split_result, crate::specs::Unit::carry_out), using(crate::proofs::Lanes::one_lane))]
+pub fn summed(simd: u64, mode: u64, wsel: u64, ysel: u64, o: Operands) -> WithCarry
+    ensures { result ≡ summed_of simd mode wsel ysel o.w o.x o.y o.z o.cin }
 {
-    if simd == 0 {
-        if mode == 0 {
-            return WithCarry {
-                result: arithmetic::lane(48, 0, w, x, y, z, cin),
-                carry: carry_out(0, 0, wsel, ysel, x, z, cin),
-            };
-        }
-        if mode < 4 {
-            return WithCarry {
-                result: arithmetic::lane(48, mode, w, x, y, z, cin),
-                carry: 0,
-            };
-        }
-    }
-    WithCarry {
-        result: split_or_logic(simd, mode, w, x, y, z, cin),
-        carry: 0,
+    match (simd, mode) {
+        (0, 0) => WithCarry {
+            result: arithmetic::lane(48, 0, o),
+            carry: carry_out(0, 0, wsel, ysel, o),
+        },
+        (0, 1..=3) => WithCarry {
+            result: arithmetic::lane(48, mode, o),
+            carry: 0,
+        },
+        _ => WithCarry {
+            result: split_or_logic(simd, mode, o),
+            carry: 0,
+        },
     }
 }
 
 // An arithmetic mode in USE_SIMD's lanes, for callers that know it to be one; any other mode is 0.
-pub fn in_lanes(simd: u64, mode: u64, w: u64, x: u64, y: u64, z: u64, cin: u64) -> u64
-    ensures { result ≡ lanes (lane_width simd) (lane_count simd) mode w x y z cin }
+#[tactic(auto, using(crate::proofs::Lanes::no_lanes))]
+pub fn in_lanes(simd: u64, mode: u64, o: Operands) -> u64
+    ensures { result ≡ lanes (lane_width simd) (lane_count simd) mode o.w o.x o.y o.z o.cin }
 {
     if mode < 4 {
-        arithmetic::by_simd(simd, mode, w, x, y, z, cin)
+        arithmetic::by_simd(simd, mode, o)
     } else {
         0
     }
@@ -128,50 +138,38 @@ fn true_sum(subtract: u64, d: u64, a: u64) -> i64
 }
 
 // The pre-adder. It does not saturate: the result is the true sum or difference modulo 2^27, and the mark tells where that is another.
+#[tactic(auto, unfolding(crate::specs::Unit::pre_adder), using(crate::proofs::PreAdder::wrapped_true))]
 pub fn pre_adder(subtract: u64, d: u64, a: u64) -> PreAdded
     ensures { result ≡ pre_adder subtract d a }
 {
     let sum = true_sum(subtract, d, a);
     PreAdded {
         ad: word::word_of(sum, 27),
-        wrap: one_if(!((-67108864 <= sum) & (sum <= 67108863))),
+        wrap: !((-67108864 <= sum) & (sum <= 67108863)) as u64,
     }
 }
 
 // The exact product of 27 bits and 18 bits, both signed, in 45 bits.
+#[tactic(auto, unfolding(crate::specs::Unit::product))]
 pub fn multiply(left: u64, right: u64) -> u64
     ensures { result ≡ product left right }
 {
     word::word_of(word::signed_of(left, 27) * word::signed_of(right, 18), 45)
 }
 
-// A product of 45 bits, sign-extended to 48.
-pub fn extend48(m: u64) -> u64
-    ensures { result ≡ extend 45 48 m }
+// The low `from` bits of n, sign-extended to `to`; of each width the low 6 bits are read.
+pub fn extend(from: u64, to: u64, n: u64) -> u64
+    ensures { result ≡ extend (from % 64) (to % 64) n }
 {
-    word::word_of(word::signed_of(m, 45), 48)
-}
-
-// B's 18 bits, sign-extended to the pre-adder's 27.
-pub fn extend27(b: u64) -> u64
-    ensures { result ≡ extend 18 27 b }
-{
-    word::word_of(word::signed_of(b, 18), 27)
+    word::word_of(word::signed_of(n, from), to)
 }
 
 // Whether AD, of 27 bits, reads as another number once it is cut to its low 18.
+#[tactic(auto, unfolding(crate::specs::Unit::cut_mark))]
 pub fn cut_mark(ad: u64) -> u64
     ensures { result ≡ cut_mark 18 27 ad }
 {
-    let cut = word::signed_of(ad, 18);
-    let whole = word::signed_of(ad, 27);
-    one_if(!((cut <= whole) & (whole <= cut)))
-}
-
-fn one_if(b: bool) -> u64
-    ensures { result ≡ (if b then 1 else 0) }
-{
-    if b { 1 } else { 0 }
+    (word::signed_of(ad, 18) != word::signed_of(ad, 27)) as u64
 }
 
 // The detector on the unit's result. Of the bits that differ from the pattern, or of the others, the mask must hide all.
@@ -181,12 +179,13 @@ pub fn detect(p: u64, pattern: u64, mask: u64) -> Detected
     let differ = (p ^ pattern) % 0x1_0000_0000_0000;
     // Of the two orders this one makes the cheaper clock.
     Detected {
-        pbd: one_if((ONES - differ) | mask == mask),
-        pd: one_if(differ | mask == mask),
+        pbd: ((ONES - differ) | mask == mask) as u64,
+        pd: (differ | mask == mask) as u64,
     }
 }
 
 // A register after the edge.
+#[tactic(auto, unfolding(crate::specs::Unit::load), using(crate::proofs::Laws::mux_1))]
 pub fn load(reset: u64, enable: u64, word: u64, input: u64) -> u64
     ensures { result ≡ load reset enable word input }
 {
@@ -199,34 +198,36 @@ pub fn load(reset: u64, enable: u64, word: u64, input: u64) -> u64
     }
 }
 
-// Every word is within its width. `&` on bools leaves no branch, so the value is the definition's own.
-fn is_within(w: u64, x: u64, y: u64, z: u64, cin: u64, alumode: u64) -> bool
-    ensures { result ≡ within w x y z cin alumode }
+// Every word is within its width. `&` leaves no branch: with `&&` the edit `adder_gives_8_before_5` is refused by a search's limit alone.
+fn is_within(o: Operands, alumode: u64) -> bool
+    ensures { result ≡ within o.w o.x o.y o.z o.cin alumode }
 {
-    (w < 0x1_0000_0000_0000)
-        & (x < 0x1_0000_0000_0000)
-        & (y < 0x1_0000_0000_0000)
-        & (z < 0x1_0000_0000_0000)
-        & (cin < 2)
+    (o.w < 0x1_0000_0000_0000)
+        & (o.x < 0x1_0000_0000_0000)
+        & (o.y < 0x1_0000_0000_0000)
+        & (o.z < 0x1_0000_0000_0000)
+        & (o.cin < 2)
         & (alumode < 16)
 }
 
 // Modes 8 to 11, or a logic mode with W not 0 or Y neither 0 nor all ones.
-fn is_forbidden(w: u64, y: u64, alumode: u64) -> bool
-    ensures { result ≡ forbidden w y alumode }
+fn is_forbidden(o: Operands, alumode: u64) -> bool
+    ensures { result ≡ forbidden o.w o.y alumode }
 {
-    (8 <= alumode) & (alumode <= 11) | !(alumode < 4) & (!(w == 0) | !((y == 0) | (y == ONES)))
+    matches!(alumode, 8..=11) || alumode >= 4 && (o.w != 0 || !matches!(o.y, 0 | ONES))
 }
 
-// The adder call for the C bench: the result, or 2^48+5 when a word is over width, or else 2^48+8 when the mode forbids it.
-pub fn adder(w: u64, x: u64, y: u64, z: u64, cin: u64, alumode: u64) -> u64
-    ensures { result ≡ adder w x y z cin alumode }
+// The adder call for the C bench: the result, or 2^48+5 when a word is over width, or else 2^48+8 when the mode forbids it. 01 names refusals
+// within the word, and the definition `adder` has them.
+#[tactic(auto, unfolding(crate::specs::Unit::adder))]
+pub fn adder(o: Operands, alumode: u64) -> u64
+    ensures { result ≡ adder o.w o.x o.y o.z o.cin alumode }
 {
-    if !is_within(w, x, y, z, cin, alumode) {
+    if !is_within(o, alumode) {
         return 0x1_0000_0000_0005;
     }
-    if is_forbidden(w, y, alumode) {
+    if is_forbidden(o, alumode) {
         return 0x1_0000_0000_0008;
     }
-    result(alumode, w, x, y, z, cin)
+    result(alumode, o)
 }

@@ -13,7 +13,7 @@ pub fn signed_of(n: u64, w: u64) -> i64
 {
     let all = 1u64 << (w % 64);
     let half = all / 2;
-    (std::num::wrapping_add_u64(n, half) % all) as i64 - half as i64
+    (n.wrapping_add(half) % all) as i64 - half as i64
 }
 
 // The word of w bits of an integer. Below zero, -1 - z has the complement of its bits.
@@ -36,6 +36,7 @@ pub fn shift17(p: u64) -> u64
 }
 
 // s divided by 2^18, rounded down. `/` rounds toward zero, so below zero the number one above is divided, and one is taken off.
+// 01 names the form, where `>> 18` would do.
 fn floor18(s: i64) -> i64
     ensures { result ≡ shr_z s (2 ^ 18) }
 {

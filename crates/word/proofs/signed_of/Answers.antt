@@ -1,5 +1,5 @@
 -- Half of 2^w added, and taken off again, leaves the reading of w bits, which fits an i64. Assumes nothing.
-use Rattle.std.proofs.Common.{◌≡◌, ℕ, ◌+◌, ◌*◌, ◌/◌, ◌%◌, ◌^◌, ◌≤◌, pos, ◌-ℤ◌, ap, ◌∙◌, mod-lt, arith, pow_pos, pow_mono, to_z-of_z, w64, SFits, to_z}
+use Rattle.std.proofs.Common.{◌≡◌, ℕ, ◌+◌, ◌*◌, ◌/◌, ◌%◌, ◌^◌, ◌≤◌, pos, ◌-ℤ◌, mod-lt, arith, pow_pos, pow_mono, to_z-of_z, w64, SFits, to_z}
 use mir.Facts.{to_z_pos}
 use Rattle.word.specs.Word.{signed}
 use Rattle.word.proofs.Laws.{signed_fits}
@@ -16,7 +16,7 @@ returns c = rw (power, read) (to_z-of_z fits)
     n = c.args.n
 
     sum : ℕ
-    sum = c.wrapping_add_u64.result
+    sum = (n + 2 ^ w / 2) % 2 ^ 64
 
     power : 1 * 2 ^ w % 2 ^ 64 ≡ 2 ^ w
     power = shl_one 64 w (omega arith)
@@ -31,7 +31,7 @@ returns c = rw (power, read) (to_z-of_z fits)
     half = record { sfits = omega (arith, room) }
 
     summed : sum % 2 ^ w ≡ (n + 2 ^ w / 2) % 2 ^ w
-    summed = ap (λ (x : ℕ). x % 2 ^ w) (rw power at c.wrapping_add_u64.ensures.value) ∙ low_bits 64 w (n + 2 ^ w / 2) (omega arith)
+    summed = low_bits 64 w (n + 2 ^ w / 2) (omega arith)
 
     read : to_z w64 (sum % 2 ^ w) -ℤ to_z w64 (2 ^ w / 2) ≡ signed w n
     read = rw (to_z_pos w64 cut.sfits, to_z_pos w64 half.sfits, summed) (signed_offset w n)

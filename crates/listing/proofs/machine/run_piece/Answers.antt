@@ -1,7 +1,9 @@
 -- Stretch after stretch, and the byte that ends each.
-use Rattle.std.proofs.Common.{◌<◌, length, arith}
+use Rattle.std.proofs.Common.{◌≡◌, ◌*◌, ◌<◌, length, arith}
+use Rattle.records.specs.Records.{output_words}
+use Rattle.player.specs.Limits.{most_slices}
 use Rattle.listing.proofs.Printing.{event_put}
-use Rattle.listing.proofs.Running.{frames_kept, reach_able, reach_so_far, next_able, next_so_far, all_ran, room_ran}
+use Rattle.listing.proofs.Running.{reach_able, reach_so_far, next_able, next_so_far, all_ran, room_ran}
 use Rattle.listing.proofs.machine.run_piece.Goals as goal
 
 pub returns-then-used-piece : goal.returns-then-used-piece
@@ -28,16 +30,14 @@ loop-out-preserved c =
     (length c.args.piece.now) r.used left
     (reach_able loop.player c.args.piece.now loop.used loop.line r _ reach.ensures loop.invariant.able) in
     let few = next.fair.count in
+    let long : length byte.new.outputs ≡ output_words * most_slices = byte.array_long4 in
     record {
-      frames =
-          frames_kept _ _ _ _ _ _ _ _ _ _ loop.invariant.frames byte.auto.attributes byte.auto.registers byte.auto.ports byte.auto.outputs
-          reach.auto.line;
       able = next;
       so_far =
           next_so_far _ _ _ r.player loop.attributes loop.registers loop.ports loop.outputs _ _ _ _ so_far byte.result _ _ _ _ _
           byte.ensures few left c.loop-out-test.true _ _
           (event_put byte.result.event byte.result.player.count _ few
-          (omega (arith, few, byte.auto.outputs, loop.invariant.frames.words.outputs)) loop.made loop.out
+          (omega (arith, few, long)) loop.made loop.out
           (omega (arith, c.loop-out-test.true, loop.invariant.so_far.room)) c.put-made.ensures)
           c.put-made.auto.out;
     }

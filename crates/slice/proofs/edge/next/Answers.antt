@@ -1,10 +1,11 @@
--- `slice::edge::next`: each register's load is what its call gives.
+-- `slice::edge::next`: each register's load is what its call gives. The check finds it too, but gives up at a limit
+-- where an edit is tried (docs/DECISIONS.md, 121).
 use Rattle.slice.specs.Slice.{next_of}
 use Rattle.slice.proofs.edge.next.Goals as goal
 
 pub returns : goal.returns
 unfolding next_of
-returns c =
+returns g c =
     rw (
       c.load.ensures,
       c.load-2.ensures,

@@ -1,4 +1,5 @@
--- `slice::edge::stepped`: what settles is the definition's, layer by layer; so is what is shown, handed up and put back.
+-- `slice::edge::stepped`: what settles is the definition's, layer by layer; so is what is shown, handed up and put back. The check finds it
+-- too, but gives up at a limit where an edit is tried (docs/DECISIONS.md, 121).
 use Rattle.slice.specs.Slice.{step_of, slice_outputs, slice_cascade, slice_next, slice_settled, slice_operands}
 use Rattle.slice.proofs.edge.stepped.Goals as goal
 

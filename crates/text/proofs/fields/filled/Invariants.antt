@@ -3,5 +3,5 @@ use Rattle.std.proofs.Common.{length}
 use Rattle.text.proofs.Lines.{Reading}
 use Rattle.text.proofs.fields.filled.Given as goal
 
-abbrev pub invariant-loop-j : goal.invariant-loop-j
-invariant-loop-j l = Reading l.letter l.s (length l.fn.into) l.into l.at l.j
+abbrev pub invariant-loop-number : goal.invariant-loop-number
+invariant-loop-number l = Reading l.letter l.s (length l.fn.into) l.into l.rest l.number-index

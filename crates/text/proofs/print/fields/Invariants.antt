@@ -3,5 +3,5 @@ use Rattle.std.proofs.Common.{take}
 use Rattle.text.specs.Printed.{fields_of, Put}
 use Rattle.text.proofs.print.fields.Given as goal
 
-abbrev pub invariant-loop-i : goal.invariant-loop-i
-invariant-loop-i l = Put l.at (fields_of (take l.i l.numbers)) l.fn.out l.end l.out
+abbrev pub invariant-loop-n : goal.invariant-loop-n
+invariant-loop-n l = Put 0 (fields_of (take l.n-index l.numbers)) l.fn.out l.end l.out

@@ -1,18 +1,15 @@
 -- There is room for the numbers of both lists and for the newline. Assumes nothing.
-use Rattle.std.proofs.Common.{arith}
 use Rattle.text.proofs.Decimal.{more_room, newline_room, whole_line}
 use Rattle.text.proofs.print.line.Goals as goal
 
-pub fields-end-requires : goal.fields-end-requires
-fields-end-requires c =
-    omega (arith, more_room c.args.letter c.args.at c.args.numbers.now c.args.more.now c.args.out.now c.requires c.fields-middle.ensures)
+pub fields-end-requires-2 : goal.fields-end-requires-2
+fields-end-requires-2 c =
+    more_room c.args.letter c.args.numbers.now c.args.more.now c.args.out.now c.requires c.fields-end.ensures
 
 pub bounds-out-end : goal.bounds-out-end
 bounds-out-end c =
-    newline_room c.args.letter c.args.at c.args.numbers.now c.args.more.now c.args.out.now c.requires c.fields-middle.ensures
-    c.fields-end.ensures
+    newline_room c.args.letter c.args.numbers.now c.args.more.now c.args.out.now c.requires c.fields-end.ensures c.fields-end-2.ensures
 
 pub returns : goal.returns
 returns c =
-    whole_line c.args.letter c.args.at c.args.numbers.now c.args.more.now c.args.out.now c.requires c.fields-middle.ensures
-    c.fields-end.ensures
+    whole_line c.args.letter c.args.numbers.now c.args.more.now c.args.out.now c.requires c.fields-end.ensures c.fields-end-2.ensures

@@ -7,5 +7,5 @@ pub returns-then-b : goal.returns-then-b
 returns-then-b c =
     let a = c.args in
     rw c.if-b.true
-    (complement_wraps a.width 64 c.wrapping_sub_u64.result a.n (omega arith) (omega arith)
-    (c.wrapping_sub_u64.ensures.value ∙ ap (λ (x : ℕ). x - 1) c.words_of.ensures.power))
+    (complement_wraps a.width 64 _ a.n (omega arith) (omega arith)
+    (omega arith ∙ ap (λ (x : ℕ). x - 1) c.words_of.ensures.power))
