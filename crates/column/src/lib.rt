@@ -39,7 +39,8 @@ pub enum Refusal {
     BadSlice,
 }
 
-// One clock: the outputs settle from the registers before the edge and the ports; then all registers load at once.
+// One clock: the outputs settle from the registers before the edge and the ports; then all registers load at once. What is lent stays
+// parameters, here, in `why` and in the checks: C and the theorems call them so, and no length is known before.
 #[tactic(auto, using(crate::proofs::Answers::accepted_ready))]
 pub fn clock(
     count: usize,

@@ -20,7 +20,6 @@ fn detects(slice: usize, outputs: &[u64]) -> bool
 
 // Of a column that shows these outputs: the event as it is; or, where the first match is looked for, the match in the place of a clock,
 // and nothing for a clock that is none.
-#[tactic(auto, unfolding(crate::specs::Showing::shown))]
 pub fn shown(shows: Shows, event: Event, outputs: &[u64]) -> Event
     ensures { result ≡ shown shows event outputs.now }
 {

@@ -87,7 +87,7 @@ fn inmode_fine(a: Attributes, k: Controls) -> bool
     (k.inmode % 2 <= a.areg) & (k.inmode >> 4 <= a.breg) & (k.inmode & WITH_AD <= a.amultsel << 4)
 }
 
-// W and Z by PREG, then X and Y by USE_MULT and PREG.
+// W and Z by PREG, then X and Y by USE_MULT and PREG. (Answers are written out: docs/DECISIONS.md, 121.)
 fn opmode_fine(a: Attributes, opmode: u64) -> bool
     ensures { opmode < 512 → a.use_mult < 2 → a.preg < 2 → result ≡ not (bad_opmode a (selects_of opmode)) }
 {

@@ -15,7 +15,8 @@ fn newline_in(bytes: &[u8]) -> Option<usize>
 }
 
 // Bytes of the piece join the line: those before a newline, as far as the line has room. Answers how many.
-// How many bytes the line has stays beside it: it is one of the lent numbers that `play` keeps between two pieces.
+// How many bytes the line has stays beside it: it is one of the lent numbers that `play` keeps between two pieces. `from` stays beside the
+// piece, here and below: `Joined` and `Reaches` tell places in the whole of it.
 fn gathered(piece: &[u8], from: usize, line: &mut [u8; LINE], held: usize) -> usize
     requires { (from ≤ length piece.now) × (held ≤ most_bytes) }
     ensures { Joined piece.now from held line.old result line.new }

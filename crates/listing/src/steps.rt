@@ -29,6 +29,7 @@ impl From<Refusal> for Fault {
 }
 
 impl Fault {
+    // The number and the place that are printed. They are read of a fault alone, so no `From` would be plainer for two.
     fn number(self) -> u64
         ensures { result ≡ fault_number self }
     {

@@ -1,7 +1,7 @@
 // A batch of which the checks have passed.
 use std::marker::Model;
 
-// A clause sees the batch, and that it is ready.
+// A clause sees the batch, and that it is ready. The three lists stay apart, as C lends them.
 #[derive(Drop)]
 pub struct Checked<'a> {
     pub terms: usize,

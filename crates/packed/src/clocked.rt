@@ -25,6 +25,7 @@ impl Checked<'_> {
     {
         self.fill_ports(t, ports);
         let ports = ports.as_flattened();
+        // Each clock of a run is accepted (`clock_accepted`), so its answer says nothing.
         let _ = column::clock(self.terms, attributes, registers, ports, outputs);
         outputs[Outputs::WORDS * (self.terms - 1)]
     }

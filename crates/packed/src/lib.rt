@@ -17,7 +17,7 @@ mod plain;
 use batch::Checked;
 
 // Why a run is refused: `Overfull` has the lowest row whose low sum does not fit.
-#[derive(Clone, Copy, Debug, PartialEq, Eq)]
+#[derive(Clone, Copy, PartialEq, Eq)]
 pub enum Refusal {
     BadTerms,
     BadRows,

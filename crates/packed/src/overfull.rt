@@ -25,7 +25,7 @@ fn all_lowest(x: &[i8], s: usize) -> bool
         .fold(true, |all, &v| all & is_lowest(v))
 }
 
-// The lowest row of eight terms that is overfull.
+// The lowest row of eight terms that is overfull. What it looks for is why a batch is no `Checked` yet.
 fn first_overfull(rows: usize, d: &[i8], b: &[i8]) -> Option<usize>
     requires { (rows ≤ most_rows) × (length d.now ≡ rows * most_terms) × (length b.now ≡ rows * most_terms) }
     ensures { result ≡ lowest (overfull (batch most_terms rows [] d.now b.now)) rows }

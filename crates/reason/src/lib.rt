@@ -29,14 +29,14 @@ pub struct Reason {
 impl Reason {
     pub const WORDS: usize = 13;
 
-    // Of a refused call: zeros.
+    // Of a refused call: zeros. By this name, as each record has `cleared`.
     pub fn none() -> Reason
         ensures { result ≡ no_reason }
     {
         Reason::default()
     }
 
-    // As words: the five values, their five places, the rule, the lanes, the result.
+    // As words: the five values, their five places, the rule, the lanes, the result. No `From`, as with each record.
     #[tactic(auto, unfolding(crate::specs::Reason::reason_words))]
     pub fn words(self) -> [u64; Reason::WORDS]
         ensures { result ≡ reason_words self }

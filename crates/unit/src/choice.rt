@@ -1,4 +1,4 @@
-// The bits that select, each by its definition in specs/Choice.antt.
+// A bit of a word, by its definition in specs/Choice.antt.
 ghost use Rattle.std.specs.Prelude.{◌≡◌, ◌%◌};
 ghost use Rattle.unit.specs.Choice.{bit};
 
