@@ -44,7 +44,8 @@ impl<'a> Inputs<'a> {
         })
     }
 
-    // Slice k's records. Here and in `settling` a place is no type of its own: it would hold one number. Of the orders of reading this one makes the cheapest clock.
+    // Slice k's records. Of the orders of reading this one makes the cheapest clock. Here and in `settling` a place is no type of its own: it
+    // would hold one number.
     pub fn slice(&self, k: usize) -> (Attributes, Registers, Ports)
         requires { k < self.now.count }
         ensures { result ≡ (attributes_at self.now.attributes.now k, registers_at self.now.registers.now k, ports_at self.now.ports.now k) }

@@ -40,8 +40,8 @@ fn put_clock(clock: u64, count: usize, outputs: &[u64], out: &mut [u8], at: usiz
     end
 }
 
-// Prints an event of a column of `count` slices, which shows these outputs, from `at` on (so `put_once` has it). Answers where it ends. Where outputs are
-// missing, or room for all of its lines, nothing is printed.
+// Prints an event of a column of `count` slices, which shows these outputs, from `at` on (so `put_once` has it). Answers where it ends.
+// Where outputs are missing, or room for all of its lines, nothing is printed.
 #[tactic(auto, unfolding(crate::specs::Events::bytes_within))]
 pub fn put(event: Event, count: usize, outputs: &[u64], out: &mut [u8], at: usize) -> usize
     ensures { Put at (bytes_within event count outputs.now at out.old) out.old result out.new }

@@ -1,7 +1,7 @@
 // The four records of a slice (01, "The lent words"): their words by name and in their order, how many they are and how wide,
 // the record of a stretch of lent words, its words put there, and the cleared slice. `cleared` and `words` stand with each record: 01
-// names the constructor, and `words` is the record's own list, which no name of a type would say plainer. `of` reads words by place: a slice pattern would name each
-// of them twice.
+// names the constructor, and `words` is the record's own list, which no name of a type would say plainer. `of` reads words by place: a
+// slice pattern would name each of them twice.
 #![tactic(auto)]
 
 ghost use Rattle.std.specs.Prelude.{ℕ, List, ◌≡◌, replicate};

@@ -28,8 +28,8 @@ pub fn line(s: &[u8], letter: u8, into: &mut [u64]) -> bool
 // Room for a printed field: a tab and 20 digits.
 pub const FIELD_ROOM: usize = 21;
 
-// Prints a line from `at` on (so `put_line_once` and its callers have it): a letter, each number of both lists after a tab, and a newline. Answers where it ends. Where there is no
-// room for it, nothing is printed.
+// Prints a line from `at` on (so `put_line_once` and its callers have it): a letter, each number of both lists after a tab, and a newline.
+// Answers where it ends. Where there is no room for it, nothing is printed.
 pub fn put_line(letter: u8, numbers: &[u64], more: &[u64], out: &mut [u8], at: usize) -> usize
     ensures { Put at (line_within letter (numbers.now ++ more.now) at out.old) out.old result out.new }
 {
