@@ -2,7 +2,7 @@
 ghost use Rattle.std.specs.Prelude.{◌≡◌, ◌≤◌, ◌<◌, true, MatchResult, Err};
 ghost use Rattle.column.specs.Column.{attributes_at, registers_at, ports_at};
 ghost use Rattle.column.specs.Refusals.{accepted, count_fits};
-ghost use Rattle.column.specs.Parts.{Lengths, inputs_answer};
+ghost use Rattle.column.specs.Parts.{Lengths, inputs_answer, asked_answer};
 
 use crate::Refusal;
 use crate::refusals::{counted, lent_as};
@@ -42,6 +42,24 @@ impl<'a> Inputs<'a> {
             registers,
             ports,
         })
+    }
+
+    // The checks of `why` that come before the clock's 3 to 9, in their order: numbers 1 and 2, then 13.
+    #[tactic(auto, unfolding(crate::specs::Parts::asked_answer))]
+    pub fn asked(
+        count: usize,
+        attributes: &'a [u64],
+        registers: &'a [u64],
+        ports: &'a [u64],
+        slice: usize,
+    ) -> Result<Inputs<'a>, Refusal>
+        ensures { MatchResult result (λ i. (asked_answer count attributes.now registers.now ports.now slice ≡ accepted) × (i.count ≡ count) × (i.attributes.now ≡ attributes.now) × (i.registers.now ≡ registers.now) × (i.ports.now ≡ ports.now)) (λ e. asked_answer count attributes.now registers.now ports.now slice ≡ Err e) }
+    {
+        let inputs = Inputs::of(count, attributes, registers, ports)?;
+        if count <= slice {
+            return Err(Refusal::BadSlice);
+        }
+        Ok(inputs)
     }
 
     // Slice k's records. Of the orders of reading this one makes the cheapest clock. Here and in `settling` a place is no type of its own: it

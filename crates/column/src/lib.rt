@@ -15,7 +15,7 @@ mod stretch;
 use inputs::Inputs;
 pub use reason::Reason;
 use records::MOST_SLICES;
-pub use records::{Attributes, Outputs, Ports, Registers};
+pub use records::{Attributes, Outputs, Ports, Record, Registers};
 pub use refusals::attributes_answer;
 
 // The checks that look into the lent words: numbers 3 to 9.
@@ -68,7 +68,7 @@ pub fn clear(count: usize, registers: &mut [u64]) -> Result<(), Refusal>
 
 // Why a slice's P is what it is in this clock: the unit's operands, where each comes from, the rule, and the result. Nothing is
 // stored.
-#[tactic(auto, unfolding(crate::specs::Calls::why_of, crate::specs::Refusals::why_answer))]
+#[tactic(auto, unfolding(crate::specs::Calls::why_of), using(crate::proofs::Answers::asked_ready, crate::proofs::Answers::asked_refuses))]
 pub fn why(
     count: usize,
     attributes: &[u64],
@@ -78,10 +78,7 @@ pub fn why(
 ) -> Result<Reason, Refusal>
     ensures { result ≡ why_of count attributes.now registers.now ports.now slice }
 {
-    let inputs = Inputs::of(count, attributes, registers, ports)?;
-    if count <= slice {
-        return Err(Refusal::BadSlice);
-    }
+    let inputs = Inputs::asked(count, attributes, registers, ports, slice)?;
     inputs.clock_answer()?;
     Ok(inputs.reason_at(slice))
 }

@@ -190,15 +190,10 @@ pub fn end_of(player: Player) -> Event
     requires { player.lines < count_bound }
     ensures { result ≡ end_of player }
 {
-    let missing = refusal(player, Fault::Line(player.lines + 1));
     match player.phase {
-        Phase::Head | Phase::Settings => missing,
-        Phase::Clocks => {
-            if (player.held == 0) & (player.given == 0) {
-                Event::Ended(player.clocks)
-            } else {
-                missing
-            }
+        Phase::Clocks if (player.held == 0) & (player.given == 0) => Event::Ended(player.clocks),
+        Phase::Head | Phase::Settings | Phase::Clocks => {
+            refusal(player, Fault::Line(player.lines + 1))
         }
         Phase::Stopped => Event::Nothing,
     }
